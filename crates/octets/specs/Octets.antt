@@ -1,0 +1,26 @@
+-- Bytes, and a byte that is looked for.
+use mathlib.Core.List.{List, [], _∷_}
+use mathlib.Core.Bool.{Bool, true, false, cond, _||_}
+use Prim.Native.Nat.{ℕ, _+_}
+use Prim.Native.String.{String}
+use Prim.Native.String as Str
+use Prim.Native.Char.{code}
+use lib.Dec.{eqb}
+
+abbrev pub Bytes : Type 0
+Bytes = List ℕ
+
+-- the bytes of a text of ASCII
+unfoldable pub ascii : String → Bytes
+ascii Str.[] = []
+ascii (Str._∷_ c s) = code c ∷ ascii s
+
+-- whether a byte of the list is NUL
+unfoldable pub hasNul : Bytes → Bool
+hasNul [] = false
+hasNul (c ∷ s) = eqb c 0 || hasNul s
+
+-- the index of the first NUL, or the length where none is
+unfoldable pub firstNul : Bytes → ℕ
+firstNul [] = 0
+firstNul (c ∷ s) = cond (eqb c 0) 0 (firstNul s + 1)

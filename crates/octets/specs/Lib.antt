@@ -1,2 +1,4 @@
 pub mod Octets
+pub mod Part
+pub mod Number
 pub mod Order

@@ -1,14 +1,19 @@
 -- Bytes, and a byte that is looked for.
 use mathlib.Core.List.{List, [], _∷_}
 use mathlib.Core.Bool.{Bool, true, false, cond, _||_}
-use Prim.Native.Nat.{ℕ, _+_}
+use Prim.Native.Nat.{ℕ, _+_, _<_}
 use Prim.Native.String.{String}
 use Prim.Native.String as Str
 use Prim.Native.Char.{code}
 use lib.Dec.{eqb}
+use lib.ListN.{getD}
 
 abbrev pub Bytes : Type 0
 Bytes = List ℕ
+
+-- every element is a byte, as the elements of a slice of bytes are
+abbrev pub Bounded : Bytes → Type 0
+Bounded s = (i : ℕ) → getD s i 0 < 256
 
 -- the bytes of a text of ASCII
 unfoldable pub ascii : String → Bytes

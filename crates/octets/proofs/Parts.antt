@@ -88,6 +88,12 @@ part-sets-same s at v h =
     let l : length (take at s) ≡ at = length-take-le at s (omega arith) in
     rw (sets-eq v s at h, append-assoc, drop-at (take at s) (v ++ drop (at + length v) s) at l) (take-append-seam v _)
 
+-- a list written over by one as long
+pub sets-whole : (s v : Bytes) → length v ≡ length s → sets s 0 v ≡ v
+sets-whole s v e =
+    let p : take (length v) (sets s 0 v) ≡ v = part-sets-same s 0 v (omega arith) in
+    sym (take-all (length v) (sets s 0 v) (omega (arith, length-sets s 0 v))) ∙ p
+
 -- a place before what is written, and one after it
 pub part-sets-before : (s : Bytes) (at : ℕ) (v : Bytes) (i n : ℕ) → i + n ≤ at → part (sets s at v) i n ≡ part s i n
 part-sets-before s at v i n h =

@@ -2,3 +2,4 @@ pub mod Octets
 pub mod Part
 pub mod Number
 pub mod Order
+pub mod Table

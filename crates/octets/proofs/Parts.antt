@@ -152,6 +152,12 @@ part-sets-moved s at i v c m h k =
     let p₄ : part s₂ (at + i + length v) m ≡ w = part-sets-after s₁ (at + i) v (at + i + length v) m (le-refl (at + i + length v)) ∙ p₃ in
     rw (part-add s₂ at (i + length v) m, part-add s₂ at i (length v), e, p₁, p₂, p₄) (append-assoc (part s at i) v w)
 
+-- n bytes moved to another place
+pub part-sets-part : (s : Bytes) (at c n : ℕ) → at + n ≤ length s → c + n ≤ length s → part (sets s at (part s c n)) at n ≡ part s c n
+part-sets-part s at c n h k =
+    let l : length (part s c n) ≡ n = length-part s c n k in
+    rw l at (part-sets-same s at (part s c n) (omega arith))
+
 -- ---- a part that was lent and comes back
 
 -- &mut s[a..e], and &mut s[a..] where k is length s - a

@@ -60,7 +60,7 @@ module _ {A : Type 0} (f : Bytes → A) (size : ℕ) where
   module _ (base : ℕ) where
     pub table-sets-field : (n i j : ℕ) (m v : Bytes) → i < n → j + length v ≤ size
         → rows f size n (drop base (sets m (base + i * size + j) v))
-          ≡ set (rows f size n (drop base m)) i (f (sets (part m (base + i * size) size) j v))
+        ≡ set (rows f size n (drop base m)) i (f (sets (part m (base + i * size) size) j v))
     table-sets-field n i j m v h l =
         rw (add-assoc base (i * size) j, drop-sets-add m base (i * size + j) v, ← (drop-drop (i * size) base m)) (rows-sets-field n i j (drop base m) v h l)
 

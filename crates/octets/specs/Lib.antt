@@ -3,3 +3,4 @@ pub mod Part
 pub mod Number
 pub mod Order
 pub mod Table
+pub mod Items

@@ -8,7 +8,7 @@ use native.Mathlib.Nat.{le-refl, add-zero, zero-add}
 use native.Mathlib.Omega.{arith}
 use lib.Dec.{leb}
 use lib.ListN.{length, take, drop, length-append, length-take, length-drop, take-append-drop}
-use lib.Seq.{take-append-le, take-append-seam, drop-append-seam, take-take, take-length, drop-drop, length-take-le, take-all}
+use lib.Seq.{take-append-le, take-append-seam, drop-append-seam, take-take, take-length, drop-drop, length-take-le, take-all, take-at}
 use borrow.Author.Tests.{leb-true, leb-false, le-leb, lt-leb}
 use Rattle.octets.specs.Octets.{Bytes}
 use Rattle.octets.specs.Part.{part}
@@ -56,6 +56,13 @@ module _ {A : Type 0} (F : Format A) where
       let s : size F (b ++ l) ≡ length b = size-encodes l e in
       let h : size F (b ++ l) ≤ length (b ++ l) = omega (arith, length-append b l) in
       first-item (b ++ l) h ∙ ap (λ (n : ℕ). F .item (take n (b ++ l))) s ∙ ap (F .item) (take-append-seam b l) ∙ e .means
+
+  -- bytes put together from a head and what follows it
+  pub encodes-head : (h r : Bytes) (a : A) → length h ≡ F .head → F .rest h ≡ length r → F .item (h ++ r) ≡ some a → Encodes F (h ++ r) a
+  unfolding size
+  encodes-head h r a e f g =
+      let t : take (F .head) (h ++ r) ≡ h = take-at h r (F .head) e in
+      record { whole = rw (t, f, length-append h r) (omega arith); means = g }
 
   -- the item in front, taken apart
   pub record Front (l : Bytes) (a : A) : Type 0 where
@@ -114,7 +121,7 @@ module _ {A : Type 0} (F : Format A) where
   pub items-next : (l : Bytes) (a : A) → 0 < length l → firstItem F l ≡ some a → items F l ≡ joined (some a) (items F (drop (size F l) l))
   items-next l a h e = items-first l h ∙ ap (λ (o : Option A). joined o (items F (drop (size F l) l))) e
 
-  isSome-joined : (a : A) (o : Option (List A)) → isSome (joined (some a) o) ≡ isSome o
+  pub isSome-joined : (a : A) (o : Option (List A)) → isSome (joined (some a) o) ≡ isSome o
   isSome-joined a none = refl
   isSome-joined a (some xs) = refl
 

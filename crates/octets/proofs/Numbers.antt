@@ -11,7 +11,7 @@ use lib.Seq.{sets, length-sets, take-suc, getD-drop, take-append-seam, take-leng
 use Rattle.octets.specs.Octets.{Bytes}
 use Rattle.octets.specs.Part.{part, apart}
 use Rattle.octets.specs.Number.{digits, number, numberAt, bigEndian}
-use Rattle.octets.proofs.Parts.{length-part, part-add, part-take, part-drop, part-part, part-sets-same, part-sets-before, part-sets-after, part-sets-apart}
+use Rattle.octets.proofs.Parts.{length-part, part-add, part-take, part-drop, part-part, part-append-front, part-append-back, part-sets-same, part-sets-before, part-sets-after, part-sets-apart}
 
 -- ---- the round trip
 
@@ -96,12 +96,25 @@ numberAt-part w s at n i h = ap number (part-part s at n i w h)
 pub numberAt-own : (w : ℕ) (s : Bytes) (at : ℕ) → numberAt w (part s at w) 0 ≡ numberAt w s at
 numberAt-own w s at = numberAt-part w s at w 0 (omega arith) ∙ ap (numberAt w s) (add-zero at)
 
--- a number in front
-pub numberAt-bigEndian : (w v : ℕ) (s : Bytes) → v < 256 ^ w → numberAt w (bigEndian w v ++ s) 0 ≡ v
+-- in two lists in a row
+pub numberAt-front : (w : ℕ) (x y : Bytes) (i : ℕ) → i + w ≤ length x → numberAt w (x ++ y) i ≡ numberAt w x i
 unfolding numberAt
-numberAt-bigEndian w v s h =
-    let e : take w (bigEndian w v ++ s) ≡ bigEndian w v = rw (length-bigEndian w v) at (take-append-seam (bigEndian w v) s) in
+numberAt-front w x y i h = ap number (part-append-front x y i w h)
+
+pub numberAt-back : (w : ℕ) (x y : Bytes) (i : ℕ) → numberAt w (x ++ y) (length x + i) ≡ numberAt w y i
+unfolding numberAt
+numberAt-back w x y i = ap number (part-append-back x y i w)
+
+-- the bytes of a number, alone and before others
+pub numberAt-bigEndian : (w v : ℕ) → v < 256 ^ w → numberAt w (bigEndian w v) 0 ≡ v
+unfolding numberAt
+numberAt-bigEndian w v h =
+    let e : take w (bigEndian w v) ≡ bigEndian w v = rw (length-bigEndian w v) at (take-length (bigEndian w v)) in
     rw e (number-bigEndian w v h)
+
+pub numberAt-bigEndian-append : (w v : ℕ) (s : Bytes) → v < 256 ^ w → numberAt w (bigEndian w v ++ s) 0 ≡ v
+numberAt-bigEndian-append w v s h =
+    numberAt-front w (bigEndian w v) s 0 (omega (arith, length-bigEndian w v)) ∙ numberAt-bigEndian w v h
 
 -- ---- a number after a write
 

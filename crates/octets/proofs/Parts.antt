@@ -9,7 +9,7 @@ use lib.Dec.{T, leb, leb→le}
 use lib.ListN.{length, take, drop, getD, set, length-append, length-take, length-drop, take-append-drop}
 use lib.Seq.{sets, sets-eq, length-sets, take-set-le, drop-set-lt, drop-set-add, take-set-lt}
 use lib.Seq.{take-append-seam, drop-append-seam, drop-at, take-at, length-take-le, take-take, take-nil, drop-nil, drop-drop, take-add}
-use lib.Seq.{take-append-le, drop-append-le, take-all, getD-take, getD-drop, getD-append-add}
+use lib.Seq.{take-append-le, drop-append-le, take-all, getD-take, getD-drop, drop-append-add}
 use borrow.Rule.Slice.PartMut.{putMid}
 use Rattle.octets.specs.Octets.{Bytes}
 use Rattle.octets.specs.Part.{part, apart}
@@ -48,6 +48,16 @@ drop-part s at n k = drop-take (drop at s) n k ∙ part-drop s at k (n - k)
 
 pub getD-part : (s : Bytes) (at n i : ℕ) → i < n → getD (part s at n) i 0 ≡ getD s (at + i) 0
 getD-part s at n i h = rw (getD-take, getD-drop)
+
+-- a part of two lists in a row
+pub part-append-front : (x y : Bytes) (i n : ℕ) → i + n ≤ length x → part (x ++ y) i n ≡ part x i n
+part-append-front x y i n h =
+    let d : drop i (x ++ y) ≡ drop i x ++ y = drop-append-le i x y (omega arith) in
+    let l : n ≤ length (drop i x) = rw length-drop (omega arith) in
+    rw d (take-append-le n (drop i x) y l)
+
+pub part-append-back : (x y : Bytes) (i n : ℕ) → part (x ++ y) (length x + i) n ≡ part y i n
+part-append-back x y i n = ap (take n) (drop-append-add x y i)
 
 -- a part in two
 pub part-add : (s : Bytes) (at n m : ℕ) → part s at (n + m) ≡ part s at n ++ part s (at + n) m
@@ -128,6 +138,10 @@ getD-sets-after s at v i h =
 
 -- ---- writes in a row
 
+-- a write behind a write
+pub sets-behind : (s : Bytes) (i j : ℕ) (a b : Bytes) → j ≡ i + length a → sets (sets s i a) j b ≡ sets s i (a ++ b)
+sets-behind s i j a b e = rw e (sym (sets-append s i a b))
+
 -- a write behind what is there makes it longer
 pub part-sets-end : (s : Bytes) (at n : ℕ) (v : Bytes) → at + n + length v ≤ length s
     → part (sets s (at + n) v) at (n + length v) ≡ part s at n ++ v
@@ -171,3 +185,26 @@ pub lent-front : (s : Bytes) (k : ℕ) (last : Bytes) → length last ≡ k → 
 lent-front s k last e h =
     let f : 0 + length last ≤ length s = omega arith in
     rw (sets-eq last s 0 f, zero-add (length last), ← e)
+
+-- a part written back after a write in it is that write in the whole
+pub sets-part-sets : (s : Bytes) (a k j : ℕ) (v : Bytes) → a + k ≤ length s → j + length v ≤ k
+    → sets s a (sets (part s a k) j v) ≡ sets s (a + j) v
+sets-part-sets s a k j v h f =
+    let t : Bytes = sets s (a + j) v in
+    let e : sets (part s a k) j v ≡ part t a k = sym (part-sets-within s a k j v f) in
+    let lt : length t ≡ length s = length-sets s (a + j) v in
+    let l : length (part t a k) ≡ k = length-part t a k (omega arith) in
+    let n : take a t ≡ take a s = take-sets s (a + j) v a (omega arith) in
+    let d : drop (a + k) t ≡ drop (a + k) s = drop-sets s (a + j) v (a + k) (omega arith) in
+    rw (e, sets-eq (part t a k) s a (omega arith), l, ← n, ← d) (append-assoc (take a t) (part t a k) (drop (a + k) t) ∙ take-part-drop t a k)
+
+-- a lent part in which a write was made
+pub lent-part-sets : (s : Bytes) (a k j to : ℕ) (v last : Bytes) → last ≡ sets (part s a k) j v
+    → a + k ≤ length s → j + length v ≤ k → to ≡ a + j → putMid a k s last ≡ sets s to v
+lent-part-sets s a k j to v last e h f g =
+    let l : length last ≡ k = ap length e ∙ length-sets (part s a k) j v ∙ length-part s a k h in
+    lent-part s a k last l h ∙ rw (e, g) (sets-part-sets s a k j v h f)
+
+pub lent-front-sets : (s : Bytes) (k j : ℕ) (v last : Bytes) → last ≡ sets (take k s) j v
+    → k ≤ length s → j + length v ≤ k → last ++ drop k s ≡ sets s j v
+lent-front-sets s k j v last e h f = lent-part-sets s 0 k j j v last e (omega arith) f (omega arith)

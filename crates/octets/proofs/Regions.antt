@@ -11,9 +11,10 @@ use lib.ListN.{length, take, drop, length-append, length-take, length-drop, take
 use lib.Seq.{sets, sets-eq, take-add, drop-drop, length-take-le, drop-length}
 use Rattle.octets.specs.Octets.{Bytes}
 use Rattle.octets.specs.Part.{part}
-use Rattle.octets.specs.Items.{Format, size, items, Encodes, Boundary}
-use Rattle.octets.proofs.Parts.{length-part, take-part, drop-part, part-sets-before, part-sets-after, part-sets-within, part-sets-end, part-sets-moved}
-use Rattle.octets.proofs.Items.{items-nil, items-append, items-one, items-snoc, items-empty, items-uncons, Uncons, size-pos}
+use Rattle.octets.specs.Items.{Format, size, firstItem, items, joined, Encodes, Boundary, isSome}
+use Rattle.octets.proofs.Parts.{length-part, take-part, drop-part, part-part, part-sets-before, part-sets-after, part-sets-within, part-sets-end, part-sets-moved}
+use Rattle.octets.proofs.Items.{items-nil, items-append, items-one, items-snoc, items-empty, items-uncons, Uncons, items-first}
+use Rattle.octets.proofs.Items.{head-le-size, size-part, first-item, items-short, isSome-joined}
 
 module _ {A : Type 0} (F : Format A) where
   -- ---- a place between items
@@ -83,7 +84,115 @@ module _ {A : Type 0} (F : Format A) where
   boundary-remove {l} {i} {xs} {ys} {x} p =
       items-append F (take i l) (drop (i + size F (drop i l)) l) xs ys (p .front) (next-of p .behind)
 
-  -- ---- a region of a memory
+  -- ---- a region of a memory: what code reads in it
+
+  length-part-le : (m : Bytes) (at n : ℕ) → length (part m at n) ≤ n
+  length-part-le m at n = rw length-take (omega arith)
+
+  -- how many bytes the item at an index takes, by its head
+  abbrev pub sizeAt : Bytes → ℕ → ℕ
+  sizeAt m at = F .head + F .rest (part m at (F .head))
+
+  size-next : (m : Bytes) (at n i : ℕ) {xs ys : List A} {y : A} → Boundary F (part m at n) i xs (y ∷ ys)
+      → (size F (drop i (part m at n)) ≡ sizeAt m (at + i)) × (i + sizeAt m (at + i) ≤ n)
+  size-next m at n i {xs} {ys} {y} b =
+      let f : i + size F (drop i (part m at n)) ≤ length (part m at n) = next-of b .fits in
+      let h : F .head ≤ n - i = omega (arith, head-le-size F (drop i (part m at n)), length-part-le m at n) in
+      let e : size F (drop i (part m at n)) ≡ sizeAt m (at + i) = ap (size F) (drop-part m at n i) ∙ size-part F m (at + i) (n - i) h in
+      (e, omega (arith, length-part-le m at n))
+
+  -- one turn of a walk over the items: the item at place i, and the place behind it
+  pub record ItemAt (m : Bytes) (at n i : ℕ) (xs ys : List A) : Type 0 where
+    pub item : A
+    pub others : List A
+    pub is : ys ≡ item ∷ others
+    pub head-fits : i + F .head ≤ n
+    pub fits : i + sizeAt m (at + i) ≤ n
+    pub encodes : Encodes F (part m (at + i) (sizeAt m (at + i))) item
+    pub next : Boundary F (part m at n) (i + sizeAt m (at + i)) (xs ++ (item ∷ [])) others
+
+  pub item-at : (m : Bytes) (at n i : ℕ) {xs ys : List A} → Boundary F (part m at n) i xs ys → at + n ≤ length m → i < n
+      → ItemAt m at n i xs ys
+  item-at m at n i {xs} {ys} b h k =
+      let u : Uncons F (drop i (part m at n)) ys = boundary-first b (rw (length-part m at n h) k) in
+      let b′ : Boundary F (part m at n) i xs (u .item ∷ u .others) = rw (u .is) at b in
+      let z = size-next m at n i b′ in
+      record {
+        item = u .item;
+        others = u .others;
+        is = u .is;
+        head-fits = omega (arith, z .1);
+        fits = z .1;
+        encodes = rw (z .0, part-part m at n i (sizeAt m (at + i)) (z .1)) at (next-of b′ .encodes);
+        next = rw (z .0) at (boundary-next b′);
+      }
+
+  -- the first item of a region, and the rest
+  pub record FirstAt (m : Bytes) (at n : ℕ) (xs : List A) : Type 0 where
+    pub item : A
+    pub others : List A
+    pub is : xs ≡ item ∷ others
+    pub head-fits : F .head ≤ n
+    pub fits : sizeAt m at ≤ n
+    pub encodes : Encodes F (part m at (sizeAt m at)) item
+    pub behind : items F (part m (at + sizeAt m at) (n - sizeAt m at)) ≡ some others
+
+  pub first-at : (m : Bytes) (at n : ℕ) (xs : List A) → items F (part m at n) ≡ some xs → at + n ≤ length m → 0 < n → FirstAt m at n xs
+  first-at m at n xs e h k =
+      let l : length (part m at n) ≡ n = length-part m at n h in
+      let u : Uncons F (part m at n) xs = items-uncons F (part m at n) xs e (omega arith) in
+      let f : F .head ≤ n = omega (arith, head-le-size F (part m at n), u .front .fits) in
+      let z : size F (part m at n) ≡ sizeAt m at = size-part F m at n f in
+      let g : sizeAt m at ≤ n = omega (arith, u .front .fits) in
+      record {
+        item = u .item;
+        others = u .others;
+        is = u .is;
+        head-fits = f;
+        fits = g;
+        encodes = rw (z, take-part m at n (sizeAt m at) g) at (u .front .encodes);
+        behind = rw (z, drop-part m at n (sizeAt m at)) at (u .behind);
+      }
+
+  -- ---- a walk that looks whether items fill a region
+
+  -- the head is cut short, or the rest
+  pub items-part-short : (m : Bytes) (at n : ℕ) → at + n ≤ length m → 0 < n → n < F .head → items F (part m at n) ≡ none
+  items-part-short m at n h k l =
+      let e : length (part m at n) ≡ n = length-part m at n h in
+      items-short F (part m at n) (omega arith) (omega (arith, head-le-size F (part m at n)))
+
+  pub items-part-cut : (m : Bytes) (at n : ℕ) → at + n ≤ length m → 0 < n → F .head ≤ n → n < sizeAt m at → items F (part m at n) ≡ none
+  items-part-cut m at n h k f l =
+      let e : length (part m at n) ≡ n = length-part m at n h in
+      items-short F (part m at n) (omega arith) (omega (arith, size-part F m at n f))
+
+  -- the bytes are no item, or one before others
+  pub items-part-next : (m : Bytes) (at n at′ n′ : ℕ) → at + n ≤ length m → F .head ≤ n → sizeAt m at ≤ n
+      → at′ ≡ at + sizeAt m at → n′ ≡ n - sizeAt m at
+      → items F (part m at n) ≡ joined (F .item (part m at (sizeAt m at))) (items F (part m at′ n′))
+  items-part-next m at n at′ n′ h f k ea en =
+      let e : length (part m at n) ≡ n = length-part m at n h in
+      let z : size F (part m at n) ≡ sizeAt m at = size-part F m at n f in
+      let p : 0 < length (part m at n) = omega (arith, F .positive) in
+      let q : firstItem F (part m at n) ≡ F .item (part m at (sizeAt m at)) =
+      first-item F (part m at n) (omega arith) ∙ rw (z, take-part m at n (sizeAt m at) k) in
+      rw (ea, en, ← q, ← (drop-part m at n (sizeAt m at)), ← z) (items-first F (part m at n) p)
+
+  pub items-part-none : (m : Bytes) (at n : ℕ) → at + n ≤ length m → F .head ≤ n → sizeAt m at ≤ n
+      → F .item (part m at (sizeAt m at)) ≡ none → items F (part m at n) ≡ none
+  items-part-none m at n h f k e =
+      items-part-next m at n (at + sizeAt m at) (n - sizeAt m at) h f k refl refl
+      ∙ ap (λ (o : Option A). joined o (items F (part m (at + sizeAt m at) (n - sizeAt m at)))) e
+
+  pub isSome-items-part : (m : Bytes) (at n at′ n′ : ℕ) {a : A} → at + n ≤ length m → F .head ≤ n → sizeAt m at ≤ n
+      → at′ ≡ at + sizeAt m at → n′ ≡ n - sizeAt m at → F .item (part m at (sizeAt m at)) ≡ some a
+      → isSome (items F (part m at n)) ≡ isSome (items F (part m at′ n′))
+  isSome-items-part m at n at′ n′ {a} h f k ea en e =
+      ap isSome (items-part-next m at n at′ n′ h f k ea en ∙ ap (λ (o : Option A). joined o (items F (part m at′ n′))) e)
+      ∙ isSome-joined F a (items F (part m at′ n′))
+
+  -- ---- a region of a memory: what code writes in it
 
   -- a write elsewhere
   pub items-sets-before : (m : Bytes) (at n a : ℕ) (v : Bytes) → at + n ≤ a → items F (part (sets m a v) at n) ≡ items F (part m at n)
@@ -93,63 +202,73 @@ module _ {A : Type 0} (F : Format A) where
   items-sets-after m at n a v h = ap (items F) (part-sets-after m a v at n h)
 
   -- an item written behind the last
-  pub items-sets-end : (m : Bytes) (at n : ℕ) (b : Bytes) (xs : List A) (x : A) → items F (part m at n) ≡ some xs → Encodes F b x
-      → at + n + length b ≤ length m → items F (part (sets m (at + n) b) at (n + length b)) ≡ some (xs ++ (x ∷ []))
-  items-sets-end m at n b xs x p e h = rw (part-sets-end m at n b h) (items-snoc F (part m at n) b xs x p e)
+  pub items-push : (m : Bytes) (at n a n′ : ℕ) (b : Bytes) (xs : List A) (x : A) → items F (part m at n) ≡ some xs → Encodes F b x
+      → at + n′ ≤ length m → a ≡ at + n → n′ ≡ n + length b → items F (part (sets m a b) at n′) ≡ some (xs ++ (x ∷ []))
+  items-push m at n a n′ b xs x p e h ea en =
+      rw (ea, en, part-sets-end m at n b (omega arith)) (items-snoc F (part m at n) b xs x p e)
 
-  -- the first item left behind, which takes k bytes
-  pub items-part-tail : (m : Bytes) (at n k : ℕ) (x : A) (xs : List A) → items F (part m at n) ≡ some (x ∷ xs) → k ≡ size F (part m at n)
-      → items F (part m (at + k) (n - k)) ≡ some xs
-  items-part-tail m at n k x xs p e =
+  -- the first item left behind
+  pub items-pop : (m : Bytes) (at n at′ n′ : ℕ) (x : A) (xs : List A) → items F (part m at n) ≡ some (x ∷ xs)
+      → at′ ≡ at + sizeAt m at → n′ ≡ n - sizeAt m at → items F (part m at′ n′) ≡ some xs
+  items-pop m at n at′ n′ x xs p ea en =
       let b : Boundary F (part m at n) 0 [] (x ∷ xs) = boundary-start (part m at n) (x ∷ xs) p in
-      rw (zero-add (size F (part m at n)), ← e, drop-part m at n k) at (next-of b .behind)
+      let z = rw (add-zero at) at (size-next m at n 0 b .0) in
+      rw (ea, en) (rw (zero-add (size F (part m at n)), z, drop-part m at n (sizeAt m at)) at (next-of b .behind))
 
-  -- an item put in at place i: `len` bytes are moved up from c to `to`, and b is written at c
-  pub items-insert : (m : Bytes) (at n i c to len n′ : ℕ) (b : Bytes) {xs ys : List A} {y : A}
-      → Boundary F (part m at n) i xs ys → Encodes F b y
-      → at + n ≤ length m → at + n′ ≤ length m → i ≤ n
-      → c ≡ at + i → to ≡ at + i + length b → len ≡ n - i → n′ ≡ n + length b
-      → items F (part (sets (sets m to (part m c len)) c b) at n′) ≡ some (xs ++ (y ∷ ys))
-  items-insert m at n i c to len n′ b p e h h′ k ec et el en =
+  -- an item put in at place i: `len` bytes are moved up from a to `to`, and b is written at a
+  pub items-insert : (m : Bytes) (at n i a to len n′ : ℕ) (b : Bytes) {xs ys : List A} {y : A}
+      → Boundary F (part m at n) i xs ys → Encodes F b y → at + n′ ≤ length m → i ≤ n
+      → a ≡ at + i → to ≡ a + length b → len ≡ n - i → n′ ≡ n + length b
+      → items F (part (sets (sets m to (part m a len)) a b) at n′) ≡ some (xs ++ (y ∷ ys))
+  items-insert m at n i a to len n′ b p e h k ea et el en =
       let q : n′ ≡ i + length b + (n - i) = omega arith in
-      rw (q, ec, et, el, part-sets-moved m at i b (at + i) (n - i) (omega arith) (omega arith), ← (take-part m at n i k), ← (drop-part m at n i))
+      let et′ : to ≡ at + i + length b = omega arith in
+      rw (q, et′, ea, el, part-sets-moved m at i b (at + i) (n - i) (omega arith) (omega arith), ← (take-part m at n i k), ← (drop-part m at n i))
       (boundary-insert p e)
 
-  -- an item of k bytes at place i replaced: `len` bytes behind it are moved from c to `to`, and b is written at a
-  pub items-replace : (m : Bytes) (at n i k a c to len n′ : ℕ) (b : Bytes) {xs ys : List A} {x y : A}
-      → Boundary F (part m at n) i xs (x ∷ ys) → Encodes F b y → k ≡ size F (part m (at + i) (n - i))
-      → at + n ≤ length m → at + n′ ≤ length m → i + k ≤ n
-      → a ≡ at + i → c ≡ at + i + k → to ≡ at + i + length b → len ≡ n - (i + k) → n′ ≡ i + length b + len
+  -- the item at place i replaced: `len` bytes behind it are moved from c to `to`, and b is written at a
+  pub items-replace : (m : Bytes) (at n i a c to len n′ : ℕ) (b : Bytes) {xs ys : List A} {x y : A}
+      → Boundary F (part m at n) i xs (x ∷ ys) → Encodes F b y → at + n ≤ length m → at + n′ ≤ length m
+      → a ≡ at + i → c ≡ a + sizeAt m a → to ≡ a + length b → len ≡ n - (i + sizeAt m a) → n′ ≡ i + length b + len
       → items F (part (sets (sets m to (part m c len)) a b) at n′) ≡ some (xs ++ (y ∷ ys))
-  items-replace m at n i k a c to len n′ b p e es h h′ f ea ec et el en =
+  items-replace m at n i a c to len n′ b p e h h′ ea ec et el en =
+      let k : ℕ = sizeAt m (at + i) in
+      let z = size-next m at n i p in
+      let ek : sizeAt m a ≡ k = ap (sizeAt m) ea in
       let ec′ : c ≡ at + (i + k) = omega arith in
-      let es′ : size F (drop i (part m at n)) ≡ k = ap (size F) (drop-part m at n i) ∙ sym es in
-      let r = rw es′ at (boundary-replace {b = b} p e) in
-      rw (en, ec′, ea, et, el, part-sets-moved m at i b (at + (i + k)) (n - (i + k)) (omega arith) (omega arith), ← (take-part m at n i (omega arith)), ← (drop-part m at n (i + k)))
-      r
+      let et′ : to ≡ at + i + length b = omega arith in
+      let el′ : len ≡ n - (i + k) = omega arith in
+      let en′ : n′ ≡ i + length b + (n - (i + k)) = omega arith in
+      let f : i + k ≤ n = z .1 in
+      rw (en′, ec′, et′, el′, ea, part-sets-moved m at i b (at + (i + k)) (n - (i + k)) (omega arith) (omega arith), ← (take-part m at n i (omega arith)), ← (drop-part m at n (i + k)))
+      (rw (z .0) at (boundary-replace {b = b} p e))
 
-  -- an item of k bytes at place i taken out: `len` bytes behind it are moved down from c to a
-  pub items-remove : (m : Bytes) (at n i k a c len n′ : ℕ) {xs ys : List A} {x : A}
-      → Boundary F (part m at n) i xs (x ∷ ys) → k ≡ size F (part m (at + i) (n - i))
-      → at + n ≤ length m → i + k ≤ n
-      → a ≡ at + i → c ≡ at + i + k → len ≡ n - (i + k) → n′ ≡ n - k
-      → items F (part (sets m a (part m c len)) at n′) ≡ some (xs ++ ys)
-  items-remove m at n i k a c len n′ p es h f ea ec el en =
-      let ec′ : c ≡ at + (i + k) = omega arith in
-      let en′ : n′ ≡ i + len = omega arith in
-      let l : length (part m (at + (i + k)) len) ≡ len = length-part m (at + (i + k)) len (omega arith) in
-      let es′ : size F (drop i (part m at n)) ≡ k = ap (size F) (drop-part m at n i) ∙ sym es in
-      let r = rw es′ at (boundary-remove p) in
-      let t = rw l at (part-sets-end m at i (part m (at + (i + k)) len) (omega arith)) in
-      rw (en′, ec′, ea, t, el, ← (take-part m at n i (omega arith)), ← (drop-part m at n (i + k))) r
-
-  -- an item at place i replaced by one of as many bytes, where it lies
+  -- the item at place i replaced by one of as many bytes, where it lies
   pub items-overwrite : (m : Bytes) (at n i a : ℕ) (b : Bytes) {xs ys : List A} {x y : A}
-      → Boundary F (part m at n) i xs (x ∷ ys) → Encodes F b y → length b ≡ size F (part m (at + i) (n - i))
-      → at + n ≤ length m → i + length b ≤ n → a ≡ at + i
+      → Boundary F (part m at n) i xs (x ∷ ys) → Encodes F b y → at + n ≤ length m
+      → a ≡ at + i → length b ≡ sizeAt m a
       → items F (part (sets m a b) at n) ≡ some (xs ++ (y ∷ ys))
-  items-overwrite m at n i a b p e es h f ea =
+  items-overwrite m at n i a b p e h ea eb =
       let l : length (part m at n) ≡ n = length-part m at n h in
-      let es′ : size F (drop i (part m at n)) ≡ length b = ap (size F) (drop-part m at n i) ∙ sym es in
-      let r = rw es′ at (boundary-replace {b = b} p e) in
-      rw (ea, part-sets-within m at n i b f, sets-eq b (part m at n) i (omega arith), append-assoc (take i (part m at n)) b (drop (i + length b) (part m at n))) r
+      let z = size-next m at n i p in
+      let eb′ : sizeAt m (at + i) ≡ length b = sym (eb ∙ ap (sizeAt m) ea) in
+      let f : i + length b ≤ n = omega (arith, z .1) in
+      rw (ea, part-sets-within m at n i b f, sets-eq b (part m at n) i (omega arith), append-assoc (take i (part m at n)) b (drop (i + length b) (part m at n)))
+      (rw (z .0, eb′) at (boundary-replace {b = b} p e))
+
+  -- the item at place i taken out: `len` bytes behind it are moved down from c to a
+  pub items-remove : (m : Bytes) (at n i a c len n′ : ℕ) {xs ys : List A} {x : A}
+      → Boundary F (part m at n) i xs (x ∷ ys) → at + n ≤ length m
+      → a ≡ at + i → c ≡ a + sizeAt m a → len ≡ n - (i + sizeAt m a) → n′ ≡ n - sizeAt m a
+      → items F (part (sets m a (part m c len)) at n′) ≡ some (xs ++ ys)
+  items-remove m at n i a c len n′ p h ea ec el en =
+      let k : ℕ = sizeAt m (at + i) in
+      let z = size-next m at n i p in
+      let f : i + k ≤ n = z .1 in
+      let ek : sizeAt m a ≡ k = ap (sizeAt m) ea in
+      let ec′ : c ≡ at + (i + k) = omega arith in
+      let el′ : len ≡ n - (i + k) = omega arith in
+      let en′ : n′ ≡ i + (n - (i + k)) = omega arith in
+      let l : length (part m (at + (i + k)) (n - (i + k))) ≡ n - (i + k) = length-part m (at + (i + k)) (n - (i + k)) (omega arith) in
+      let t = rw l at (part-sets-end m at i (part m (at + (i + k)) (n - (i + k))) (omega arith)) in
+      rw (en′, ec′, el′, ea, t, ← (take-part m at n i (omega arith)), ← (drop-part m at n (i + k))) (rw (z .0) at (boundary-remove p))

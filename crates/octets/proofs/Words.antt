@@ -101,6 +101,9 @@ pub record Both (w : ℕ) (a b : Bytes) (i : ℕ) : Type 0 where
   pub bytes-first : Bounded a
   pub bytes-second : Bounded b
 
+pub both : (w : ℕ) (a b : Bytes) (i : ℕ) → i + w ≤ length a → i + w ≤ length b → Bounded a → Bounded b → Both w a b i
+both w a b i h k p q = record { first = h; second = k; bytes-first = p; bytes-second = q }
+
 module _ {w : ℕ} {a b : Bytes} {i : ℕ} (h : Both w a b i) where
   equal-parts : numberAt w a i ≡ numberAt w b i → part a i w ≡ part b i w
   unfolding numberAt

@@ -4,3 +4,4 @@ pub mod Number
 pub mod Order
 pub mod Table
 pub mod Items
+mod Examples

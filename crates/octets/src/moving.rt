@@ -12,10 +12,10 @@ pub fn move_up(s: &mut [u8], from: usize, len: usize, by: usize)
     ensures { λ _. ⌜ now (s .exit) ≡ sets (now (s .entry)) (from + by) (part (now (s .entry)) from len) ⌝ }
 {
     let to = from + by;
-    let mut i = len;
-    while 0 < i {
-        i -= 1;
-        s[to + i] = s[from + i];
+    let mut left = len;
+    while 0 < left {
+        left -= 1;
+        s[to + left] = s[from + left];
     }
 }
 

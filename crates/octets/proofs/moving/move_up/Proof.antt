@@ -11,10 +11,12 @@ use Rattle.octets.proofs.moving.move_up.Statement.{statement}
 use Rattle.octets.proofs.moving.move_up.Tie as tie
 
 abbrev Inv-loop : tie.InvT-loop
-Inv-loop s₀ from len by to i₀ s i = (to ≡ from + by) × (i ≤ len) × (s ≡ sets s₀ (from + by + i) (part s₀ (from + i) (len - i))) × (length s ≡ length s₀)
+Inv-loop s₀ from len by to left₀ s left =
+    (to ≡ from + by) × (left ≤ len)
+    × (s ≡ sets s₀ (from + by + left) (part s₀ (from + left) (len - left))) × (length s ≡ length s₀)
 
 abbrev μ-loop : tie.MeasureT-loop
-μ-loop s₀ from len by to i₀ s i = i
+μ-loop s₀ from len by to left₀ s left = left
 
 loop-holds : tie.Need-loop-holds Inv-loop μ-loop
 loop-holds c =
@@ -28,7 +30,8 @@ loop-again c =
     let L = c .before .before .loop in (
       refl,
       omega arith,
-      rw (L .inv .2) (move-up-turn (A .s .now) (A .from) (A .from + A .by) (A .len) (L .i) (omega arith) (omega arith) (omega arith) (omega arith)),
+      rw (L .inv .2)
+          (move-up-turn (A .s .now) (A .from) (A .from + A .by) (A .len) (L .left) (omega arith) (omega arith) (omega arith) (omega arith)),
       simp length-set (L .inv .3),
     )
 
@@ -39,7 +42,7 @@ returns : tie.Need-returns Inv-loop μ-loop
 returns c =
     let A = c .before .before .args in
     let L = c .before .loop in
-    let e : L .i ≡ 0 = omega arith in
+    let e : L .left ≡ 0 = omega arith in
     rw (e, add-zero (A .from + A .by), add-zero (A .from), sub-zero (A .len)) at (L .inv .2)
 
 pub move-up-spec : {M : Type 1} → statement M

@@ -8,11 +8,13 @@ use native.Mathlib.Nat.{le-refl, add-zero, zero-add}
 use native.Mathlib.Omega.{arith}
 use lib.Dec.{leb}
 use lib.ListN.{length, take, drop, length-append, length-take, length-drop, take-append-drop}
-use lib.Seq.{take-append-le, take-append-seam, drop-append-seam, take-take, take-length, drop-drop, length-take-le, take-all, take-at}
+use lib.Seq.{take-append-le, take-append-seam, drop-append-seam, take-take, take-length, drop-drop, length-take-le}
+use lib.Seq.{take-all, take-at}
 use borrow.Author.Tests.{leb-true, leb-false, le-leb, lt-leb}
 use Rattle.octets.specs.Octets.{Bytes}
 use Rattle.octets.specs.Part.{part}
-use Rattle.octets.specs.Items.{Format, size, firstItem, itemsUpTo, items, joined, Encodes, Contents, done, more, packed, isSome}
+use Rattle.octets.specs.Items.{Format, size, firstItem, itemsUpTo, items, joined, Encodes, Contents, done}
+use Rattle.octets.specs.Items.{more, packed, isSome}
 use Rattle.octets.proofs.Parts.{drop-part, take-part, part-take}
 
 module _ {A : Type 0} (F : Format A) where
@@ -55,10 +57,12 @@ module _ {A : Type 0} (F : Format A) where
   first-encodes {b} l e =
       let s : size F (b ++ l) ≡ length b = size-encodes l e in
       let h : size F (b ++ l) ≤ length (b ++ l) = omega (arith, length-append b l) in
-      first-item (b ++ l) h ∙ ap (λ (n : ℕ). F .item (take n (b ++ l))) s ∙ ap (F .item) (take-append-seam b l) ∙ e .means
+      first-item (b ++ l) h ∙ ap (λ (n : ℕ). F .item (take n (b ++ l))) s ∙ ap (F .item) (take-append-seam b l)
+      ∙ e .means
 
   -- bytes put together from a head and what follows it
-  pub encodes-head : (h r : Bytes) (a : A) → length h ≡ F .head → F .rest h ≡ length r → F .item (h ++ r) ≡ some a → Encodes F (h ++ r) a
+  pub encodes-head : (h r : Bytes) (a : A) → length h ≡ F .head → F .rest h ≡ length r → F .item (h ++ r) ≡ some a
+      → Encodes F (h ++ r) a
   unfolding size
   encodes-head h r a e f g =
       let t : take (F .head) (h ++ r) ≡ h = take-at h r (F .head) e in
@@ -118,7 +122,8 @@ module _ {A : Type 0} (F : Format A) where
   pub items-short : (l : Bytes) → 0 < length l → length l < size F l → items F l ≡ none
   items-short l h k = items-none l h (first-short l k)
 
-  pub items-next : (l : Bytes) (a : A) → 0 < length l → firstItem F l ≡ some a → items F l ≡ joined (some a) (items F (drop (size F l) l))
+  pub items-next : (l : Bytes) (a : A) → 0 < length l → firstItem F l ≡ some a
+      → items F l ≡ joined (some a) (items F (drop (size F l) l))
   items-next l a h e = items-first l h ∙ ap (λ (o : Option A). joined o (items F (drop (size F l) l))) e
 
   pub isSome-joined : (a : A) (o : Option (List A)) → isSome (joined (some a) o) ≡ isSome o
@@ -135,15 +140,19 @@ module _ {A : Type 0} (F : Format A) where
   items-contents done = items-nil
   items-contents (more {b} {l} {a} {xs} e r) =
       let p : 0 < length (b ++ l) = omega (arith, length-append b l, size-pos b, e .whole) in
-      let d : drop (size F (b ++ l)) (b ++ l) ≡ l = ap (λ (n : ℕ). drop n (b ++ l)) (size-encodes l e) ∙ drop-append-seam b l in
-      items-next (b ++ l) a p (first-encodes l e) ∙ ap (λ (t : Bytes). joined (some a) (items F t)) d ∙ ap (joined (some a)) (items-contents r)
+      let d : drop (size F (b ++ l)) (b ++ l) ≡ l = ap (λ (n : ℕ). drop n (b ++ l)) (size-encodes l e)
+      ∙ drop-append-seam b l in
+      items-next (b ++ l) a p (first-encodes l e) ∙ ap (λ (t : Bytes). joined (some a) (items F t)) d
+      ∙ ap (joined (some a)) (items-contents r)
 
-  contents-cons : {l : Bytes} {a : A} {xs : List A} → Front l a → Contents F (drop (size F l) l) xs → Contents F l (a ∷ xs)
+  contents-cons : {l : Bytes} {a : A} {xs : List A} → Front l a → Contents F (drop (size F l) l) xs
+      → Contents F l (a ∷ xs)
   contents-cons {l} {a} {xs} f r =
       subst (λ (t : Bytes). Contents F t (a ∷ xs)) (take-append-drop (size F l) l) (more (f .encodes) r)
 
   joined-case : (l : Bytes) (o : Option A) (p : Option (List A)) (xs : List A)
-      → firstItem F l ≡ o → ((ys : List A) → p ≡ some ys → Contents F (drop (size F l) l) ys) → joined o p ≡ some xs → Contents F l xs
+      → firstItem F l ≡ o → ((ys : List A) → p ≡ some ys → Contents F (drop (size F l) l) ys) → joined o p ≡ some xs
+      → Contents F l xs
   joined-case l none p xs e ih q = absurd (Option·none-ne-some xs q)
   joined-case l (some a) none xs e ih q = absurd (Option·none-ne-some xs q)
   joined-case l (some a) (some ys) xs e ih q =
@@ -164,18 +173,21 @@ module _ {A : Type 0} (F : Format A) where
 
   -- ---- joined
 
-  pub contents-append : {l m : Bytes} {xs ys : List A} → Contents F l xs → Contents F m ys → Contents F (l ++ m) (xs ++ ys)
+  pub contents-append : {l m : Bytes} {xs ys : List A} → Contents F l xs → Contents F m ys
+      → Contents F (l ++ m) (xs ++ ys)
   contents-append done q = q
   contents-append {m = m} (more {b} {l} e r) q = rw (append-assoc b l m) (more e (contents-append r q))
 
-  pub items-append : (l m : Bytes) (xs ys : List A) → items F l ≡ some xs → items F m ≡ some ys → items F (l ++ m) ≡ some (xs ++ ys)
+  pub items-append : (l m : Bytes) (xs ys : List A) → items F l ≡ some xs → items F m ≡ some ys
+      → items F (l ++ m) ≡ some (xs ++ ys)
   items-append l m xs ys p q = items-contents (contents-append (contents-items l xs p) (contents-items m ys q))
 
   pub items-one : {b : Bytes} {a : A} → Encodes F b a → items F b ≡ some (a ∷ [])
   items-one {b} {a} e = rw (append-nil b) at (items-contents (more {l = []} e done))
 
   -- an item behind the last
-  pub items-snoc : (l b : Bytes) (xs : List A) (a : A) → items F l ≡ some xs → Encodes F b a → items F (l ++ b) ≡ some (xs ++ (a ∷ []))
+  pub items-snoc : (l b : Bytes) (xs : List A) (a : A) → items F l ≡ some xs → Encodes F b a
+      → items F (l ++ b) ≡ some (xs ++ (a ∷ []))
   items-snoc l b xs a p e = items-append l b xs (a ∷ []) p (items-one e)
 
   -- ---- taken apart
@@ -196,11 +208,19 @@ module _ {A : Type 0} (F : Format A) where
   pub items-uncons : (l : Bytes) (xs : List A) → items F l ≡ some xs → 0 < length l → Uncons l xs
   items-uncons l xs e h = go (firstItem F l) (items F (drop (size F l) l)) refl refl (sym (items-first l h) ∙ e)
     where
-      go : (o : Option A) (p : Option (List A)) → firstItem F l ≡ o → items F (drop (size F l) l) ≡ p → joined o p ≡ some xs → Uncons l xs
+      go : (o : Option A) (p : Option (List A)) → firstItem F l ≡ o → items F (drop (size F l) l) ≡ p
+          → joined o p ≡ some xs → Uncons l xs
       go none p u v q = absurd (Option·none-ne-some xs q)
       go (some a) none u v q = absurd (Option·none-ne-some xs q)
       go (some a) (some ys) u v q =
-          record { item = a; others = ys; is = sym (Option·some-injective (a ∷ ys) xs q); front = front-of l a u; behind = v }
+          record {
+            item = a;
+            others = ys;
+            is = sym (Option·some-injective (a ∷ ys) xs q);
+            front =
+                front-of l a u;
+            behind = v;
+          }
 
   -- an item takes a byte at least
   pub length-items : {l : Bytes} {xs : List A} → Contents F l xs → length xs ≤ length l
@@ -209,7 +229,8 @@ module _ {A : Type 0} (F : Format A) where
 
   -- ---- packed
 
-  pub items-packed : (encode : A → Bytes) (xs : List A) → ((a : A) → Encodes F (encode a) a) → items F (packed encode xs) ≡ some xs
+  pub items-packed : (encode : A → Bytes) (xs : List A) → ((a : A) → Encodes F (encode a) a)
+      → items F (packed encode xs) ≡ some xs
   unfolding packed
   items-packed encode xs h = items-contents (go xs)
     where

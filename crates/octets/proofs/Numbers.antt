@@ -2,7 +2,8 @@
 use mathlib.Core.Path.{_≡_, refl, sym, ap, _∙_}
 use mathlib.Core.List.{List, [], _∷_, _++_}
 use Prim.Native.Nat.{ℕ, zero, suc, _+_, _-_, _*_, _/_, _%_, _^_, _≤_, _<_}
-use native.Mathlib.Nat.{add-zero, zero-mul, zero-add, pow-suc, pow-zero, pow-succ', mul-one, add-mul, mul-assoc, div-add-mod', div-lt-iff-lt-mul}
+use native.Mathlib.Nat.{add-zero, zero-mul, zero-add, pow-suc, pow-zero, pow-succ', mul-one, add-mul, mul-assoc}
+use native.Mathlib.Nat.{div-add-mod', div-lt-iff-lt-mul}
 use native.Mathlib.Numerals.{add-one}
 use native.Mathlib.Omega.{arith}
 use lib.Dec.{T, lit<}
@@ -11,7 +12,9 @@ use lib.Seq.{sets, length-sets, take-suc, getD-drop, take-append-seam, take-leng
 use Rattle.octets.specs.Octets.{Bytes}
 use Rattle.octets.specs.Part.{part, apart}
 use Rattle.octets.specs.Number.{digits, number, numberAt, bigEndian}
-use Rattle.octets.proofs.Parts.{length-part, part-add, part-take, part-drop, part-part, part-append-front, part-append-back, part-sets-same, part-sets-before, part-sets-after, part-sets-apart}
+use Rattle.octets.proofs.Parts.{length-part, part-add, part-take, part-drop, part-part, part-append-front}
+use Rattle.octets.proofs.Parts.{part-append-back, part-sets-same, part-sets-before, part-sets-after}
+use Rattle.octets.proofs.Parts.{part-sets-apart}
 
 -- ---- the round trip
 
@@ -22,7 +25,8 @@ digits-from n (b ∷ s) =
     let p : ℕ = 256 ^ length s in
     let e₁ : (n * 256 + b) * p ≡ n * 256 * p + b * p = add-mul (n * 256) b p in
     let e₂ : (0 * 256 + b) * p ≡ b * p = ap (λ (x : ℕ). x * p) (zero-add b) in
-    let e₃ : n * 256 ^ suc (length s) ≡ n * 256 * p = ap (λ (x : ℕ). n * x) (pow-succ' 256 (length s)) ∙ sym (mul-assoc n 256 p) in
+    let e₃ : n * 256 ^ suc (length s) ≡ n * 256 * p = ap (λ (x : ℕ). n * x) (pow-succ' 256 (length s))
+    ∙ sym (mul-assoc n 256 p) in
     rw (e₃, digits-from (n * 256 + b) s, digits-from (0 * 256 + b) s, e₁, e₂) (omega arith)
 
 digits-append : (n : ℕ) (s t : Bytes) → digits n (s ++ t) ≡ digits (digits n s) t
@@ -66,7 +70,8 @@ numberAt-one s at h =
     rw (take-suc (drop at s) 0 0 l, getD-drop at s 0 0, add-zero at) (omega arith)
 
 -- one byte more
-pub numberAt-suc : (w : ℕ) (s : Bytes) (at : ℕ) → at + w < length s → numberAt (suc w) s at ≡ numberAt w s at * 256 + getD s (at + w) 0
+pub numberAt-suc : (w : ℕ) (s : Bytes) (at : ℕ) → at + w < length s
+    → numberAt (suc w) s at ≡ numberAt w s at * 256 + getD s (at + w) 0
 unfolding numberAt
 numberAt-suc w s at h =
     let l : w < length (drop at s) = rw length-drop (omega arith) in
@@ -118,34 +123,41 @@ numberAt-bigEndian-append w v s h =
 
 -- ---- a number after a write
 
-pub numberAt-sets-same : (w : ℕ) (s : Bytes) (at v : ℕ) → at + w ≤ length s → v < 256 ^ w → numberAt w (sets s at (bigEndian w v)) at ≡ v
+pub numberAt-sets-same : (w : ℕ) (s : Bytes) (at v : ℕ) → at + w ≤ length s → v < 256 ^ w
+    → numberAt w (sets s at (bigEndian w v)) at ≡ v
 unfolding numberAt
 numberAt-sets-same w s at v h k =
     let l : at + length (bigEndian w v) ≤ length s = rw (length-bigEndian w v) h in
-    let e : part (sets s at (bigEndian w v)) at w ≡ bigEndian w v = rw (length-bigEndian w v) at (part-sets-same s at (bigEndian w v) l) in
+    let e : part (sets s at (bigEndian w v)) at w ≡ bigEndian w v =
+    rw (length-bigEndian w v) at (part-sets-same s at (bigEndian w v) l) in
     rw e (number-bigEndian w v k)
 
-pub numberAt-sets-before : (w : ℕ) (s : Bytes) (at : ℕ) (x : Bytes) (i : ℕ) → i + w ≤ at → numberAt w (sets s at x) i ≡ numberAt w s i
+pub numberAt-sets-before : (w : ℕ) (s : Bytes) (at : ℕ) (x : Bytes) (i : ℕ) → i + w ≤ at
+    → numberAt w (sets s at x) i ≡ numberAt w s i
 unfolding numberAt
 numberAt-sets-before w s at x i h = ap number (part-sets-before s at x i w h)
 
-pub numberAt-sets-after : (w : ℕ) (s : Bytes) (at : ℕ) (x : Bytes) (i : ℕ) → at + length x ≤ i → numberAt w (sets s at x) i ≡ numberAt w s i
+pub numberAt-sets-after : (w : ℕ) (s : Bytes) (at : ℕ) (x : Bytes) (i : ℕ) → at + length x ≤ i
+    → numberAt w (sets s at x) i ≡ numberAt w s i
 unfolding numberAt
 numberAt-sets-after w s at x i h = ap number (part-sets-after s at x i w h)
 
 -- a number at a literal place after a number written at another: the test computes, so that `simp` finds it
-pub numberAt-sets-apart : (w : ℕ) (s : Bytes) (at k v i : ℕ) → T (apart i w at k) → numberAt w (sets s at (bigEndian k v)) i ≡ numberAt w s i
+pub numberAt-sets-apart : (w : ℕ) (s : Bytes) (at k v i : ℕ) → T (apart i w at k)
+    → numberAt w (sets s at (bigEndian k v)) i ≡ numberAt w s i
 unfolding numberAt
 numberAt-sets-apart w s at k v i t =
     ap number (part-sets-apart s at (bigEndian k v) i w (rw (length-bigEndian k v) t))
 
 -- a header of literal places after five writes: the field written is read back, and the field behind is as it was
 header-written : (s : Bytes) (a b c d e : ℕ) → 20 ≤ length s → b < 256 ^ 4
-    → numberAt 4 (sets (sets (sets (sets (sets s 0 (bigEndian 4 a)) 4 (bigEndian 4 b)) 8 (bigEndian 2 c)) 12 (bigEndian 3 d)) 16 (bigEndian 4 e)) 4 ≡ b
+    → numberAt 4 (sets (sets (sets (sets (sets s 0 (bigEndian 4 a)) 4 (bigEndian 4 b)) 8 (bigEndian 2 c)) 12
+    (bigEndian 3 d)) 16 (bigEndian 4 e)) 4 ≡ b
 header-written s a b c d e l h =
     let f : 4 + 4 ≤ length (sets s 0 (bigEndian 4 a)) = simp length-sets (omega arith) in
     simp (numberAt-sets-apart, tt {0}, numberAt-sets-same)
 
 header-behind : (s : Bytes) (a b c d e : ℕ)
-    → numberAt 4 (sets (sets (sets (sets (sets s 0 (bigEndian 4 a)) 4 (bigEndian 4 b)) 8 (bigEndian 2 c)) 12 (bigEndian 3 d)) 16 (bigEndian 4 e)) 20 ≡ numberAt 4 s 20
+    → numberAt 4 (sets (sets (sets (sets (sets s 0 (bigEndian 4 a)) 4 (bigEndian 4 b)) 8 (bigEndian 2 c)) 12
+    (bigEndian 3 d)) 16 (bigEndian 4 e)) 20 ≡ numberAt 4 s 20
 header-behind s a b c d e = simp (numberAt-sets-apart, tt {0})

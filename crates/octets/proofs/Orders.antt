@@ -3,7 +3,8 @@ use mathlib.Core.Path.{_≡_, refl, sym, ap, ap₂, _∙_}
 use mathlib.Core.List.{List, [], _∷_, _++_}
 use mathlib.Core.Bool.{Bool, true, false, cond, true≢false}
 use Prim.Native.Nat.{ℕ, zero, suc, _+_, _-_, _*_, _^_, _≤_, _<_}
-use native.Mathlib.Nat.{lt-irrefl, zero-mul, zero-add, add-mul, mul-assoc, pow-succ', pow-zero, suc-mul, mul-le-mul-right, mul-one, mul-comm}
+use native.Mathlib.Nat.{lt-irrefl, zero-mul, zero-add, add-mul, mul-assoc, pow-succ', pow-zero, suc-mul}
+use native.Mathlib.Nat.{mul-le-mul-right, mul-one, mul-comm}
 use native.Mathlib.Omega.{arith}
 use lib.Dec.{eqb, ltb, lit<}
 use lib.ListN.{length, take, drop, getD, take-append-drop, length-take, length-drop}
@@ -88,7 +89,8 @@ same-eq [] (b ∷ t) e = absurd (true≢false (sym e))
 same-eq (a ∷ s) [] e = absurd (true≢false (sym e))
 same-eq (a ∷ s) (b ∷ t) e = go (same-eq s t) (eqb a b) refl e
   where
-    go : (same s t ≡ true → s ≡ t) → (q : Bool) → eqb a b ≡ q → cond q (same s t) false ≡ true → _≡_ {A = Bytes} (a ∷ s) (b ∷ t)
+    go : (same s t ≡ true → s ≡ t) → (q : Bool) → eqb a b ≡ q → cond q (same s t) false ≡ true
+        → _≡_ {A = Bytes} (a ∷ s) (b ∷ t)
     go ih true p e = ap₂ (λ (x : ℕ) (l : Bytes). x ∷ l) (eqb-true a b p) (ih e)
     go ih false p e = absurd (true≢false (sym e))
 
@@ -118,14 +120,16 @@ before-trans (a ∷ s) [] u p q = absurd (true≢false (sym p))
 before-trans (a ∷ s) (b ∷ t) [] p q = absurd (true≢false (sym q))
 before-trans (a ∷ s) (b ∷ t) (c ∷ u) p q = go (before-trans s t u) (compared a b) (compared b c)
   where
-    go : (before s t ≡ true → before t u ≡ true → before s u ≡ true) → Compared a b → Compared b c → before (a ∷ s) (c ∷ u) ≡ true
+    go : (before s t ≡ true → before t u ≡ true → before s u ≡ true) → Compared a b → Compared b c
+        → before (a ∷ s) (c ∷ u) ≡ true
     go ih (above h) k = absurd (true≢false (sym p ∙ before-above s t h))
     go ih (below h) (above k) = absurd (true≢false (sym q ∙ before-above t u k))
     go ih (level h) (above k) = absurd (true≢false (sym q ∙ before-above t u k))
     go ih (below h) (below k) = before-below {a = a} {b = c} s u (omega arith)
     go ih (below h) (level k) = before-below {a = a} {b = c} s u (omega arith)
     go ih (level h) (below k) = before-below {a = a} {b = c} s u (omega arith)
-    go ih (level h) (level k) = before-level s u (h ∙ k) ∙ ih (sym (before-level s t h) ∙ p) (sym (before-level t u k) ∙ q)
+    go ih (level h) (level k) = before-level s u (h ∙ k)
+        ∙ ih (sym (before-level s t h) ∙ p) (sym (before-level t u k) ∙ q)
 
 pub before-asym : (s t : Bytes) → before s t ≡ true → before t s ≡ false
 before-asym s t p = go (before t s) refl

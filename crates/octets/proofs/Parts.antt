@@ -1,4 +1,5 @@
--- The laws of `part` and of `sets`: what a write leaves of each part, parts of parts, and a part that was lent and comes back.
+-- The laws of `part` and of `sets`: what a write leaves of each part, parts of parts, and a part that was lent and
+-- comes back.
 use mathlib.Core.Path.{_≡_, refl, sym, ap, _∙_}
 use mathlib.Core.List.{List, [], _∷_, _++_, append-assoc, append-nil}
 use mathlib.Core.Bool.{Bool, true, false, _||_}
@@ -8,7 +9,8 @@ use native.Mathlib.Omega.{arith}
 use lib.Dec.{T, leb, leb→le}
 use lib.ListN.{length, take, drop, getD, set, length-append, length-take, length-drop, take-append-drop}
 use lib.Seq.{sets, sets-eq, length-sets, take-set-le, drop-set-lt, drop-set-add, take-set-lt}
-use lib.Seq.{take-append-seam, drop-append-seam, drop-at, take-at, length-take-le, take-take, take-nil, drop-nil, drop-drop, take-add}
+use lib.Seq.{take-append-seam, drop-append-seam, drop-at, take-at, length-take-le, take-take, take-nil, drop-nil}
+use lib.Seq.{drop-drop, take-add}
 use lib.Seq.{take-append-le, drop-append-le, take-all, getD-take, getD-drop, drop-append-add}
 use borrow.Rule.Slice.PartMut.{putMid}
 use Rattle.octets.specs.Octets.{Bytes}
@@ -83,10 +85,12 @@ drop-sets s at (a ∷ v) k h = drop-sets (set s at a) (suc at) v k (omega arith)
 -- a write behind k places, seen from there
 pub drop-sets-add : (s : Bytes) (k at : ℕ) (v : Bytes) → drop k (sets s (k + at) v) ≡ sets (drop k s) at v
 drop-sets-add s k at [] = refl
-drop-sets-add s k at (a ∷ v) = rw (← (add-suc k at)) (drop-sets-add (set s (k + at) a) k (suc at) v ∙ rw (drop-set-add k s at a))
+drop-sets-add s k at (a ∷ v) = rw (← (add-suc k at))
+    (drop-sets-add (set s (k + at) a) k (suc at) v ∙ rw (drop-set-add k s at a))
 
 -- a write that ends before k, seen up to there
-pub take-sets-within : (s : Bytes) (k at : ℕ) (v : Bytes) → at + length v ≤ k → take k (sets s at v) ≡ sets (take k s) at v
+pub take-sets-within : (s : Bytes) (k at : ℕ) (v : Bytes) → at + length v ≤ k
+    → take k (sets s at v) ≡ sets (take k s) at v
 take-sets-within s k at [] h = refl
 take-sets-within s k at (a ∷ v) h =
     take-sets-within (set s at a) k (suc at) v (omega arith)
@@ -107,9 +111,11 @@ sets-whole s v e =
 -- a place before what is written, and one after it
 pub part-sets-before : (s : Bytes) (at : ℕ) (v : Bytes) (i n : ℕ) → i + n ≤ at → part (sets s at v) i n ≡ part s i n
 part-sets-before s at v i n h =
-    sym (part-take (sets s at v) i n at h) ∙ ap (λ (l : Bytes). part l i n) (take-sets s at v at (le-refl at)) ∙ part-take s i n at h
+    sym (part-take (sets s at v) i n at h) ∙ ap (λ (l : Bytes). part l i n) (take-sets s at v at (le-refl at))
+    ∙ part-take s i n at h
 
-pub part-sets-after : (s : Bytes) (at : ℕ) (v : Bytes) (i n : ℕ) → at + length v ≤ i → part (sets s at v) i n ≡ part s i n
+pub part-sets-after : (s : Bytes) (at : ℕ) (v : Bytes) (i n : ℕ) → at + length v ≤ i
+    → part (sets s at v) i n ≡ part s i n
 part-sets-after s at v i n h = ap (take n) (drop-sets s at v i h)
 
 -- a place that holds what is written
@@ -122,7 +128,8 @@ or-case true b t f g = f tt
 or-case false b t f g = g t
 
 -- either, by the test
-pub part-sets-apart : (s : Bytes) (at : ℕ) (v : Bytes) (i n : ℕ) → T (apart i n at (length v)) → part (sets s at v) i n ≡ part s i n
+pub part-sets-apart : (s : Bytes) (at : ℕ) (v : Bytes) (i n : ℕ) → T (apart i n at (length v))
+    → part (sets s at v) i n ≡ part s i n
 part-sets-apart s at v i n t =
     or-case (leb (i + n) at) (leb (at + length v) i) t
     (λ h. part-sets-before s at v i n (leb→le _ _ h))
@@ -130,11 +137,14 @@ part-sets-apart s at v i n t =
 
 pub getD-sets-before : (s : Bytes) (at : ℕ) (v : Bytes) (i : ℕ) → i < at → getD (sets s at v) i 0 ≡ getD s i 0
 getD-sets-before s at v i h =
-    sym (getD-take at (sets s at v) i 0 h) ∙ ap (λ (l : Bytes). getD l i 0) (take-sets s at v at (le-refl at)) ∙ getD-take at s i 0 h
+    sym (getD-take at (sets s at v) i 0 h) ∙ ap (λ (l : Bytes). getD l i 0) (take-sets s at v at (le-refl at))
+    ∙ getD-take at s i 0 h
 
-pub getD-sets-after : (s : Bytes) (at : ℕ) (v : Bytes) (i : ℕ) → at + length v ≤ i → getD (sets s at v) i 0 ≡ getD s i 0
+pub getD-sets-after : (s : Bytes) (at : ℕ) (v : Bytes) (i : ℕ) → at + length v ≤ i
+    → getD (sets s at v) i 0 ≡ getD s i 0
 getD-sets-after s at v i h =
-    rw (add-zero i) at (sym (getD-drop i (sets s at v) 0 0) ∙ ap (λ (l : Bytes). getD l 0 0) (drop-sets s at v i h) ∙ getD-drop i s 0 0)
+    rw (add-zero i) at (sym (getD-drop i (sets s at v) 0 0) ∙ ap (λ (l : Bytes). getD l 0 0) (drop-sets s at v i h)
+    ∙ getD-drop i s 0 0)
 
 -- ---- writes in a row
 
@@ -146,12 +156,20 @@ sets-behind s i j a b e = rw e (sym (sets-append s i a b))
 pub part-sets-end : (s : Bytes) (at n : ℕ) (v : Bytes) → at + n + length v ≤ length s
     → part (sets s (at + n) v) at (n + length v) ≡ part s at n ++ v
 part-sets-end s at n v h =
-    rw (part-add (sets s (at + n) v) at n (length v), part-sets-same s (at + n) v h, part-sets-before s (at + n) v at n (le-refl (at + n)))
+    rw (
+      part-add (sets s (at + n) v) at n (length v),
+      part-sets-same s (at + n) v h,
+      part-sets-before s
+          (at + n) v at n (le-refl (at + n)),
+    )
 
--- The i bytes at `at`, then v, then what m bytes from c on were: m bytes are moved, and v is written before them. It is how bytes
--- are put in (c is at + i), taken out (v is empty), and replaced by as many, more or fewer (c is past the old ones).
-pub part-sets-moved : (s : Bytes) (at i : ℕ) (v : Bytes) (c m : ℕ) → at + i + length v + m ≤ length s → c + m ≤ length s
-    → part (sets (sets s (at + i + length v) (part s c m)) (at + i) v) at (i + length v + m) ≡ part s at i ++ (v ++ part s c m)
+-- The i bytes at `at`, then v, then what m bytes from c on were: m bytes are moved, and v is written before them. It
+-- is how bytes are put in (c is at + i), taken out (v is empty), and replaced by as many, more or fewer (c is past
+-- the old ones).
+pub part-sets-moved : (s : Bytes) (at i : ℕ) (v : Bytes) (c m : ℕ) → at + i + length v + m ≤ length s
+    → c + m ≤ length s
+    → part (sets (sets s (at + i + length v) (part s c m)) (at + i) v) at (i + length v + m)
+    ≡ part s at i ++ (v ++ part s c m)
 part-sets-moved s at i v c m h k =
     let w : Bytes = part s c m in
     let lw : length w ≡ m = length-part s c m k in
@@ -160,14 +178,17 @@ part-sets-moved s at i v c m h k =
     let e : at + (i + length v) ≡ at + i + length v = omega arith in
     let l₁ : length s₁ ≡ length s = length-sets s (at + i + length v) w in
     let p₁ : part s₂ at i ≡ part s at i =
-    part-sets-before s₁ (at + i) v at i (le-refl (at + i)) ∙ part-sets-before s (at + i + length v) w at i (omega arith) in
+    part-sets-before s₁ (at + i) v at i (le-refl (at + i))
+    ∙ part-sets-before s (at + i + length v) w at i (omega arith) in
     let p₂ : part s₂ (at + i) (length v) ≡ v = part-sets-same s₁ (at + i) v (omega arith) in
     let p₃ : part s₁ (at + i + length v) m ≡ w = rw lw at (part-sets-same s (at + i + length v) w (omega arith)) in
-    let p₄ : part s₂ (at + i + length v) m ≡ w = part-sets-after s₁ (at + i) v (at + i + length v) m (le-refl (at + i + length v)) ∙ p₃ in
+    let p₄ : part s₂ (at + i + length v) m ≡ w =
+    part-sets-after s₁ (at + i) v (at + i + length v) m (le-refl (at + i + length v)) ∙ p₃ in
     rw (part-add s₂ at (i + length v) m, part-add s₂ at i (length v), e, p₁, p₂, p₄) (append-assoc (part s at i) v w)
 
 -- n bytes moved to another place
-pub part-sets-part : (s : Bytes) (at c n : ℕ) → at + n ≤ length s → c + n ≤ length s → part (sets s at (part s c n)) at n ≡ part s c n
+pub part-sets-part : (s : Bytes) (at c n : ℕ) → at + n ≤ length s → c + n ≤ length s
+    → part (sets s at (part s c n)) at n ≡ part s c n
 part-sets-part s at c n h k =
     let l : length (part s c n) ≡ n = length-part s c n k in
     rw l at (part-sets-same s at (part s c n) (omega arith))
@@ -175,7 +196,8 @@ part-sets-part s at c n h k =
 -- ---- a part that was lent and comes back
 
 -- &mut s[a..e], and &mut s[a..] where k is length s - a
-pub lent-part : (s : Bytes) (a k : ℕ) (last : Bytes) → length last ≡ k → a + k ≤ length s → putMid a k s last ≡ sets s a last
+pub lent-part : (s : Bytes) (a k : ℕ) (last : Bytes) → length last ≡ k → a + k ≤ length s
+    → putMid a k s last ≡ sets s a last
 lent-part s a k last e h =
     let f : a + length last ≤ length s = omega arith in
     rw (sets-eq last s a f, ← e, drop-drop (length last) a s) (sym (append-assoc (take a s) last _))
@@ -196,7 +218,8 @@ sets-part-sets s a k j v h f =
     let l : length (part t a k) ≡ k = length-part t a k (omega arith) in
     let n : take a t ≡ take a s = take-sets s (a + j) v a (omega arith) in
     let d : drop (a + k) t ≡ drop (a + k) s = drop-sets s (a + j) v (a + k) (omega arith) in
-    rw (e, sets-eq (part t a k) s a (omega arith), l, ← n, ← d) (append-assoc (take a t) (part t a k) (drop (a + k) t) ∙ take-part-drop t a k)
+    rw (e, sets-eq (part t a k) s a (omega arith), l, ← n, ← d)
+    (append-assoc (take a t) (part t a k) (drop (a + k) t) ∙ take-part-drop t a k)
 
 -- a lent part in which a write was made
 pub lent-part-sets : (s : Bytes) (a k j to : ℕ) (v last : Bytes) → last ≡ sets (part s a k) j v

@@ -1,6 +1,6 @@
--- The laws of packed items in a region of a memory: a place between items, an item put in, replaced or taken out in the middle by moving
--- the rest, one put behind the last, the first taken off, and writes elsewhere. The numbers that code computes are arguments of their
--- own, each with the equation that it has to meet.
+-- The laws of packed items in a region of a memory: a place between items, an item put in, replaced or taken out in
+-- the middle by moving the rest, one put behind the last, the first taken off, and writes elsewhere. The numbers that
+-- code computes are arguments of their own, each with the equation that it has to meet.
 use mathlib.Core.Path.{_≡_, refl, sym, ap, _∙_}
 use mathlib.Core.List.{List, [], _∷_, _++_, append-assoc, append-nil}
 use mathlib.Core.Option.{Option, none, some}
@@ -12,8 +12,10 @@ use lib.Seq.{sets, sets-eq, take-add, drop-drop, length-take-le, drop-length}
 use Rattle.octets.specs.Octets.{Bytes}
 use Rattle.octets.specs.Part.{part}
 use Rattle.octets.specs.Items.{Format, size, firstItem, items, joined, Encodes, Boundary, isSome}
-use Rattle.octets.proofs.Parts.{length-part, take-part, drop-part, part-part, part-sets-before, part-sets-after, part-sets-within, part-sets-end, part-sets-moved}
-use Rattle.octets.proofs.Items.{items-nil, items-append, items-one, items-snoc, items-empty, items-uncons, Uncons, items-first}
+use Rattle.octets.proofs.Parts.{length-part, take-part, drop-part, part-part, part-sets-before}
+use Rattle.octets.proofs.Parts.{part-sets-after, part-sets-within, part-sets-end, part-sets-moved}
+use Rattle.octets.proofs.Items.{items-nil, items-append, items-one, items-snoc, items-empty, items-uncons}
+use Rattle.octets.proofs.Items.{Uncons, items-first}
 use Rattle.octets.proofs.Items.{head-le-size, size-part, first-item, items-short, isSome-joined}
 
 module _ {A : Type 0} (F : Format A) where
@@ -30,7 +32,8 @@ module _ {A : Type 0} (F : Format A) where
   boundary-end {l} {i} {xs} {ys} b h = items-empty F (drop i l) ys (b .back) (rw length-drop (omega arith))
 
   -- the item behind it
-  pub boundary-first : {l : Bytes} {i : ℕ} {xs ys : List A} → Boundary F l i xs ys → i < length l → Uncons F (drop i l) ys
+  pub boundary-first : {l : Bytes} {i : ℕ} {xs ys : List A} → Boundary F l i xs ys → i < length l
+      → Uncons F (drop i l) ys
   boundary-first {l} {i} {xs} {ys} b h = items-uncons F (drop i l) ys (b .back) (rw length-drop (omega arith))
 
   -- where the item behind it ends, and what that item is
@@ -43,7 +46,8 @@ module _ {A : Type 0} (F : Format A) where
   next-of {l} {i} {xs} {ys} {y} b = go (items-uncons F (drop i l) (y ∷ ys) (b .back) (some-bytes (drop i l) (b .back)))
     where
       some-bytes : (r : Bytes) → items F r ≡ some (y ∷ ys) → 0 < length r
-      some-bytes [] e = let z : _≡_ {A = Option (List A)} (some []) (some (y ∷ ys)) = sym (items-nil F) ∙ e in let q : _≡_ {A = ℕ} 0 1 = cc in omega arith
+      some-bytes [] e = let z : _≡_ {A = Option (List A)} (some []) (some (y ∷ ys)) = sym (items-nil F)
+          ∙ e in let q : _≡_ {A = ℕ} 0 1 = cc in omega arith
       some-bytes (c ∷ r) e = omega arith
 
       go : Uncons F (drop i l) (y ∷ ys) → Next l i y ys
@@ -62,7 +66,8 @@ module _ {A : Type 0} (F : Format A) where
       let n : Next l i y ys = next-of b in
       record {
         within = n .fits;
-        front = rw (take-add i (size F (drop i l)) l) (items-snoc F (take i l) (part l i (size F (drop i l))) xs y (b .front) (n .encodes));
+        front = rw (take-add i (size F (drop i l)) l)
+            (items-snoc F (take i l) (part l i (size F (drop i l))) xs y (b .front) (n .encodes));
         back = n .behind;
       }
 
@@ -71,7 +76,8 @@ module _ {A : Type 0} (F : Format A) where
   pub boundary-insert : {l b : Bytes} {i : ℕ} {xs ys : List A} {y : A} → Boundary F l i xs ys → Encodes F b y
       → items F (take i l ++ (b ++ drop i l)) ≡ some (xs ++ (y ∷ ys))
   boundary-insert {l} {b} {i} {xs} {ys} {y} p e =
-      items-append F (take i l) (b ++ drop i l) xs (y ∷ ys) (p .front) (items-append F b (drop i l) (y ∷ []) ys (items-one F e) (p .back))
+      items-append F (take i l) (b ++ drop i l) xs (y ∷ ys) (p .front)
+      (items-append F b (drop i l) (y ∷ []) ys (items-one F e) (p .back))
 
   pub boundary-replace : {l b : Bytes} {i : ℕ} {xs ys : List A} {x y : A} → Boundary F l i xs (x ∷ ys) → Encodes F b y
       → items F (take i l ++ (b ++ drop (i + size F (drop i l)) l)) ≡ some (xs ++ (y ∷ ys))
@@ -98,7 +104,8 @@ module _ {A : Type 0} (F : Format A) where
   size-next m at n i {xs} {ys} {y} b =
       let f : i + size F (drop i (part m at n)) ≤ length (part m at n) = next-of b .fits in
       let h : F .head ≤ n - i = omega (arith, head-le-size F (drop i (part m at n)), length-part-le m at n) in
-      let e : size F (drop i (part m at n)) ≡ sizeAt m (at + i) = ap (size F) (drop-part m at n i) ∙ size-part F m (at + i) (n - i) h in
+      let e : size F (drop i (part m at n)) ≡ sizeAt m (at + i) = ap (size F) (drop-part m at n i)
+      ∙ size-part F m (at + i) (n - i) h in
       (e, omega (arith, length-part-le m at n))
 
   -- one turn of a walk over the items: the item at place i, and the place behind it
@@ -111,7 +118,8 @@ module _ {A : Type 0} (F : Format A) where
     pub encodes : Encodes F (part m (at + i) (sizeAt m (at + i))) item
     pub next : Boundary F (part m at n) (i + sizeAt m (at + i)) (xs ++ (item ∷ [])) others
 
-  pub item-at : (m : Bytes) (at n i : ℕ) {xs ys : List A} → Boundary F (part m at n) i xs ys → at + n ≤ length m → i < n
+  pub item-at : (m : Bytes) (at n i : ℕ) {xs ys : List A} → Boundary F (part m at n) i xs ys → at + n ≤ length m
+      → i < n
       → ItemAt m at n i xs ys
   item-at m at n i {xs} {ys} b h k =
       let u : Uncons F (drop i (part m at n)) ys = boundary-first b (rw (length-part m at n h) k) in
@@ -137,7 +145,8 @@ module _ {A : Type 0} (F : Format A) where
     pub encodes : Encodes F (part m at (sizeAt m at)) item
     pub behind : items F (part m (at + sizeAt m at) (n - sizeAt m at)) ≡ some others
 
-  pub first-at : (m : Bytes) (at n : ℕ) (xs : List A) → items F (part m at n) ≡ some xs → at + n ≤ length m → 0 < n → FirstAt m at n xs
+  pub first-at : (m : Bytes) (at n : ℕ) (xs : List A) → items F (part m at n) ≡ some xs → at + n ≤ length m → 0 < n
+      → FirstAt m at n xs
   first-at m at n xs e h k =
       let l : length (part m at n) ≡ n = length-part m at n h in
       let u : Uncons F (part m at n) xs = items-uncons F (part m at n) xs e (omega arith) in
@@ -157,12 +166,14 @@ module _ {A : Type 0} (F : Format A) where
   -- ---- a walk that looks whether items fill a region
 
   -- the head is cut short, or the rest
-  pub items-part-short : (m : Bytes) (at n : ℕ) → at + n ≤ length m → 0 < n → n < F .head → items F (part m at n) ≡ none
+  pub items-part-short : (m : Bytes) (at n : ℕ) → at + n ≤ length m → 0 < n → n < F .head
+      → items F (part m at n) ≡ none
   items-part-short m at n h k l =
       let e : length (part m at n) ≡ n = length-part m at n h in
       items-short F (part m at n) (omega arith) (omega (arith, head-le-size F (part m at n)))
 
-  pub items-part-cut : (m : Bytes) (at n : ℕ) → at + n ≤ length m → 0 < n → F .head ≤ n → n < sizeAt m at → items F (part m at n) ≡ none
+  pub items-part-cut : (m : Bytes) (at n : ℕ) → at + n ≤ length m → 0 < n → F .head ≤ n → n < sizeAt m at
+      → items F (part m at n) ≡ none
   items-part-cut m at n h k f l =
       let e : length (part m at n) ≡ n = length-part m at n h in
       items-short F (part m at n) (omega arith) (omega (arith, size-part F m at n f))
@@ -189,20 +200,24 @@ module _ {A : Type 0} (F : Format A) where
       → at′ ≡ at + sizeAt m at → n′ ≡ n - sizeAt m at → F .item (part m at (sizeAt m at)) ≡ some a
       → isSome (items F (part m at n)) ≡ isSome (items F (part m at′ n′))
   isSome-items-part m at n at′ n′ {a} h f k ea en e =
-      ap isSome (items-part-next m at n at′ n′ h f k ea en ∙ ap (λ (o : Option A). joined o (items F (part m at′ n′))) e)
+      ap isSome (items-part-next m at n at′ n′ h f k ea en
+      ∙ ap (λ (o : Option A). joined o (items F (part m at′ n′))) e)
       ∙ isSome-joined F a (items F (part m at′ n′))
 
   -- ---- a region of a memory: what code writes in it
 
   -- a write elsewhere
-  pub items-sets-before : (m : Bytes) (at n a : ℕ) (v : Bytes) → at + n ≤ a → items F (part (sets m a v) at n) ≡ items F (part m at n)
+  pub items-sets-before : (m : Bytes) (at n a : ℕ) (v : Bytes) → at + n ≤ a
+      → items F (part (sets m a v) at n) ≡ items F (part m at n)
   items-sets-before m at n a v h = ap (items F) (part-sets-before m a v at n h)
 
-  pub items-sets-after : (m : Bytes) (at n a : ℕ) (v : Bytes) → a + length v ≤ at → items F (part (sets m a v) at n) ≡ items F (part m at n)
+  pub items-sets-after : (m : Bytes) (at n a : ℕ) (v : Bytes) → a + length v ≤ at
+      → items F (part (sets m a v) at n) ≡ items F (part m at n)
   items-sets-after m at n a v h = ap (items F) (part-sets-after m a v at n h)
 
   -- an item written behind the last
-  pub items-push : (m : Bytes) (at n a n′ : ℕ) (b : Bytes) (xs : List A) (x : A) → items F (part m at n) ≡ some xs → Encodes F b x
+  pub items-push : (m : Bytes) (at n a n′ : ℕ) (b : Bytes) (xs : List A) (x : A) → items F (part m at n) ≡ some xs
+      → Encodes F b x
       → at + n′ ≤ length m → a ≡ at + n → n′ ≡ n + length b → items F (part (sets m a b) at n′) ≡ some (xs ++ (x ∷ []))
   items-push m at n a n′ b xs x p e h ea en =
       rw (ea, en, part-sets-end m at n b (omega arith)) (items-snoc F (part m at n) b xs x p e)
@@ -223,7 +238,16 @@ module _ {A : Type 0} (F : Format A) where
   items-insert m at n i a to len n′ b p e h k ea et el en =
       let q : n′ ≡ i + length b + (n - i) = omega arith in
       let et′ : to ≡ at + i + length b = omega arith in
-      rw (q, et′, ea, el, part-sets-moved m at i b (at + i) (n - i) (omega arith) (omega arith), ← (take-part m at n i k), ← (drop-part m at n i))
+      rw (
+        q,
+        et′,
+        ea,
+        el,
+        part-sets-moved m at i b (at + i) (n - i) (omega arith) (omega arith),
+        ←
+            (take-part m at n i k),
+        ← (drop-part m at n i),
+      )
       (boundary-insert p e)
 
   -- the item at place i replaced: `len` bytes behind it are moved from c to `to`, and b is written at a
@@ -240,7 +264,16 @@ module _ {A : Type 0} (F : Format A) where
       let el′ : len ≡ n - (i + k) = omega arith in
       let en′ : n′ ≡ i + length b + (n - (i + k)) = omega arith in
       let f : i + k ≤ n = z .1 in
-      rw (en′, ec′, et′, el′, ea, part-sets-moved m at i b (at + (i + k)) (n - (i + k)) (omega arith) (omega arith), ← (take-part m at n i (omega arith)), ← (drop-part m at n (i + k)))
+      rw (
+        en′,
+        ec′,
+        et′,
+        el′,
+        ea,
+        part-sets-moved m at i b (at + (i + k)) (n - (i + k)) (omega arith) (omega arith),
+        ← (take-part m at n i (omega arith)),
+        ← (drop-part m at n (i + k)),
+      )
       (rw (z .0) at (boundary-replace {b = b} p e))
 
   -- the item at place i replaced by one of as many bytes, where it lies
@@ -253,7 +286,13 @@ module _ {A : Type 0} (F : Format A) where
       let z = size-next m at n i p in
       let eb′ : sizeAt m (at + i) ≡ length b = sym (eb ∙ ap (sizeAt m) ea) in
       let f : i + length b ≤ n = omega (arith, z .1) in
-      rw (ea, part-sets-within m at n i b f, sets-eq b (part m at n) i (omega arith), append-assoc (take i (part m at n)) b (drop (i + length b) (part m at n)))
+      rw (
+        ea,
+        part-sets-within m at n i b f,
+        sets-eq b (part m at n) i (omega arith),
+        append-assoc
+            (take i (part m at n)) b (drop (i + length b) (part m at n)),
+      )
       (rw (z .0, eb′) at (boundary-replace {b = b} p e))
 
   -- the item at place i taken out: `len` bytes behind it are moved down from c to a
@@ -269,6 +308,8 @@ module _ {A : Type 0} (F : Format A) where
       let ec′ : c ≡ at + (i + k) = omega arith in
       let el′ : len ≡ n - (i + k) = omega arith in
       let en′ : n′ ≡ i + (n - (i + k)) = omega arith in
-      let l : length (part m (at + (i + k)) (n - (i + k))) ≡ n - (i + k) = length-part m (at + (i + k)) (n - (i + k)) (omega arith) in
+      let l : length (part m (at + (i + k)) (n - (i + k))) ≡ n - (i + k) =
+      length-part m (at + (i + k)) (n - (i + k)) (omega arith) in
       let t = rw l at (part-sets-end m at i (part m (at + (i + k)) (n - (i + k))) (omega arith)) in
-      rw (en′, ec′, el′, ea, t, ← (take-part m at n i (omega arith)), ← (drop-part m at n (i + k))) (rw (z .0) at (boundary-remove p))
+      rw (en′, ec′, el′, ea, t, ← (take-part m at n i (omega arith)), ← (drop-part m at n (i + k)))
+      (rw (z .0) at (boundary-remove p))

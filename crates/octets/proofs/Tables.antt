@@ -9,7 +9,8 @@ use lib.Seq.{sets, drop-drop}
 use Rattle.octets.specs.Octets.{Bytes}
 use Rattle.octets.specs.Part.{part}
 use Rattle.octets.specs.Table.{rows}
-use Rattle.octets.proofs.Parts.{take-sets, drop-sets, drop-sets-add, take-sets-within, part-sets-same, sets-whole, length-part}
+use Rattle.octets.proofs.Parts.{take-sets, drop-sets, drop-sets-add, take-sets-within, part-sets-same}
+use Rattle.octets.proofs.Parts.{sets-whole, length-part}
 
 module _ {A : Type 0} (f : Bytes → A) (size : ℕ) where
   pub length-rows : (n : ℕ) (m : Bytes) → length (rows f size n m) ≡ n
@@ -35,25 +36,36 @@ module _ {A : Type 0} (f : Bytes → A) (size : ℕ) where
   rows-sets-field (suc n) (suc i) j m v h l =
       let z : suc i * size ≡ size + i * size = suc-mul i size ∙ add-comm (i * size) size in
       let y : size + i * size + j ≡ size + (i * size + j) = add-assoc size (i * size) j in
-      rw (z, y, take-sets m (size + (i * size + j)) v size (omega arith), drop-sets-add m size (i * size + j) v, ← (drop-drop (i * size) size m))
+      rw (
+        z,
+        y,
+        take-sets m (size + (i * size + j)) v size (omega arith),
+        drop-sets-add m size (i * size + j) v,
+        ←
+            (drop-drop (i * size) size m),
+      )
       (ap (λ (t : List A). f (take size m) ∷ t) (rows-sets-field n i j (drop size m) v (omega arith) l))
 
   -- a whole row written
   pub rows-sets : (n i : ℕ) (m v : Bytes) → i < n → i * size + size ≤ length m → length v ≡ size
       → rows f size n (sets m (i * size) v) ≡ set (rows f size n m) i (f v)
   rows-sets n i m v h l e =
-      let w : sets (part m (i * size) size) 0 v ≡ v = sets-whole (part m (i * size) size) v (omega (arith, length-part m (i * size) size l)) in
+      let w : sets (part m (i * size) size) 0 v ≡ v =
+      sets-whole (part m (i * size) size) v (omega (arith, length-part m (i * size) size l)) in
       rw (add-zero (i * size), w) at (rows-sets-field n i 0 m v h (omega arith))
 
   -- writes behind the table
-  pub rows-sets-after : (n : ℕ) (m : Bytes) (at : ℕ) (v : Bytes) → n * size ≤ at → rows f size n (sets m at v) ≡ rows f size n m
+  pub rows-sets-after : (n : ℕ) (m : Bytes) (at : ℕ) (v : Bytes) → n * size ≤ at
+      → rows f size n (sets m at v) ≡ rows f size n m
   unfolding rows
   rows-sets-after zero m at v h = refl
   rows-sets-after (suc n) m at v h =
       let z : suc n * size ≡ n * size + size = suc-mul n size in
       let y : size + (at - size) ≡ at = omega arith in
-      let d : drop size (sets m at v) ≡ sets (drop size m) (at - size) v = rw y at (drop-sets-add m size (at - size) v) in
-      rw (take-sets m at v size (omega arith), d) (ap (λ (t : List A). f (take size m) ∷ t) (rows-sets-after n (drop size m) (at - size) v (omega arith)))
+      let d : drop size (sets m at v) ≡ sets (drop size m) (at - size) v =
+      rw y at (drop-sets-add m size (at - size) v) in
+      rw (take-sets m at v size (omega arith), d)
+      (ap (λ (t : List A). f (take size m) ∷ t) (rows-sets-after n (drop size m) (at - size) v (omega arith)))
 
   -- ---- a table that starts at base
 
@@ -62,7 +74,8 @@ module _ {A : Type 0} (f : Bytes → A) (size : ℕ) where
         → rows f size n (drop base (sets m (base + i * size + j) v))
         ≡ set (rows f size n (drop base m)) i (f (sets (part m (base + i * size) size) j v))
     table-sets-field n i j m v h l =
-        rw (add-assoc base (i * size) j, drop-sets-add m base (i * size + j) v, ← (drop-drop (i * size) base m)) (rows-sets-field n i j (drop base m) v h l)
+        rw (add-assoc base (i * size) j, drop-sets-add m base (i * size + j) v, ← (drop-drop (i * size) base m))
+        (rows-sets-field n i j (drop base m) v h l)
 
     pub table-sets : (n i : ℕ) (m v : Bytes) → i < n → base + i * size + size ≤ length m → length v ≡ size
         → rows f size n (drop base (sets m (base + i * size) v)) ≡ set (rows f size n (drop base m)) i (f v)
@@ -77,8 +90,10 @@ module _ {A : Type 0} (f : Bytes → A) (size : ℕ) where
         → rows f size n (drop base (sets m at v)) ≡ rows f size n (drop base m)
     table-sets-after n m at v h =
         let y : base + (at - base) ≡ at = omega arith in
-        let d : drop base (sets m at v) ≡ sets (drop base m) (at - base) v = rw y at (drop-sets-add m base (at - base) v) in
+        let d : drop base (sets m at v) ≡ sets (drop base m) (at - base) v =
+        rw y at (drop-sets-add m base (at - base) v) in
         rw d (rows-sets-after n (drop base m) (at - base) v (omega arith))
 
-    pub getD-table : (n i : ℕ) (m : Bytes) (d : A) → i < n → getD (rows f size n (drop base m)) i d ≡ f (part m (base + i * size) size)
+    pub getD-table : (n i : ℕ) (m : Bytes) (d : A) → i < n
+        → getD (rows f size n (drop base m)) i d ≡ f (part m (base + i * size) size)
     getD-table n i m d h = rw (getD-rows n i (drop base m) d h, drop-drop (i * size) base m)

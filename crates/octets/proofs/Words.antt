@@ -1,9 +1,11 @@
--- Words with the highest byte first are ordered as their bytes are: the laws by which two lists are compared w bytes at a time.
+-- Words with the highest byte first are ordered as their bytes are: the laws by which two lists are compared w bytes
+-- at a time.
 use mathlib.Core.Path.{_≡_, refl, sym, ap, ap₂, _∙_}
 use mathlib.Core.List.{List, [], _∷_, _++_}
 use mathlib.Core.Bool.{Bool, true, false}
 use Prim.Native.Nat.{ℕ, zero, suc, _+_, _-_, _*_, _^_, _≤_, _<_}
-use native.Mathlib.Nat.{lt-irrefl, zero-mul, zero-add, add-mul, mul-assoc, pow-succ', pow-zero, suc-mul, mul-le-mul-right, mul-one, add-zero}
+use native.Mathlib.Nat.{lt-irrefl, zero-mul, zero-add, add-mul, mul-assoc, pow-succ', pow-zero, suc-mul}
+use native.Mathlib.Nat.{mul-le-mul-right, mul-one, add-zero}
 use native.Mathlib.Numerals.{add-one}
 use native.Mathlib.Omega.{arith}
 use lib.ListN.{length, take, drop, getD, take-append-drop, drop-of-length-le}
@@ -16,7 +18,8 @@ use Rattle.octets.specs.declared.comparison.Order.{Order}
 use Rattle.octets.specs.declared.comparison.Order.the-variants.{Less, Equal, Greater}
 use Rattle.octets.proofs.Parts.{length-part}
 use Rattle.octets.proofs.Numbers.{number-cons}
-use Rattle.octets.proofs.Orders.{Compared, below, level, above, compared, order-below, order-level, order-above, order-less, order-after}
+use Rattle.octets.proofs.Orders.{Compared, below, level, above, compared, order-below, order-level}
+use Rattle.octets.proofs.Orders.{order-above, order-less, order-after}
 use Rattle.octets.proofs.Orders.{same-level, same-other, ne-same}
 
 bounded-take : (n : ℕ) (s : Bytes) → Bounded s → Bounded (take n s)
@@ -67,14 +70,16 @@ number-injective (a ∷ x) (b ∷ y) e h k q =
         ap₂ (λ (c : ℕ) (t : Bytes). c ∷ t) l (ih (omega (arith, number-cons a x, number-cons b y)))
 
 -- the bytes behind do not matter
-number-order : (x y s t : Bytes) → length x ≡ length y → Bounded x → Bounded y → number x < number y → order (x ++ s) (y ++ t) ≡ Less
+number-order : (x y s t : Bytes) → length x ≡ length y → Bounded x → Bounded y → number x < number y
+    → order (x ++ s) (y ++ t) ≡ Less
 number-order [] [] s t e h k q = absurd (lt-irrefl (number []) q)
 number-order [] (b ∷ y) s t e h k q = absurd (omega arith)
 number-order (a ∷ x) [] s t e h k q = absurd (omega arith)
 number-order (a ∷ x) (b ∷ y) s t e h k q =
     go (number-order x y s t (omega arith) (λ i. h (suc i)) (λ i. k (suc i))) (compared a b)
   where
-    go : (number x < number y → order (x ++ s) (y ++ t) ≡ Less) → Compared a b → order (a ∷ (x ++ s)) (b ∷ (y ++ t)) ≡ Less
+    go : (number x < number y → order (x ++ s) (y ++ t) ≡ Less) → Compared a b
+        → order (a ∷ (x ++ s)) (b ∷ (y ++ t)) ≡ Less
     go ih (below l) = order-below (x ++ s) (y ++ t) l
     go ih (above l) = absurd (omega (arith, number-lead b a y x (omega arith) (λ i. k (suc i)) l))
     go ih (level l) =
@@ -119,12 +124,15 @@ module _ {w : ℕ} {a b : Bytes} {i : ℕ} (h : Both w a b i) where
       (length-part a i w (h .first) ∙ sym (length-part b i w (h .second)))
       (bounded-part a i w (h .bytes-first)) (bounded-part b i w (h .bytes-second)) l)
 
-  pub order-word-same : numberAt w a i ≡ numberAt w b i → order (drop i a) (drop i b) ≡ order (drop (i + w) a) (drop (i + w) b)
+  pub order-word-same : numberAt w a i ≡ numberAt w b i
+      → order (drop i a) (drop i b) ≡ order (drop (i + w) a) (drop (i + w) b)
   order-word-same e =
       rw (front w a i, front w b i, equal-parts e) (order-front (part b i w) (drop (i + w) a) (drop (i + w) b))
 
-  pub same-word-same : numberAt w a i ≡ numberAt w b i → same (drop i a) (drop i b) ≡ same (drop (i + w) a) (drop (i + w) b)
-  same-word-same e = rw (front w a i, front w b i, equal-parts e) (same-front (part b i w) (drop (i + w) a) (drop (i + w) b))
+  pub same-word-same : numberAt w a i ≡ numberAt w b i
+      → same (drop i a) (drop i b) ≡ same (drop (i + w) a) (drop (i + w) b)
+  same-word-same e = rw (front w a i, front w b i, equal-parts e)
+      (same-front (part b i w) (drop (i + w) a) (drop (i + w) b))
 
   pub same-word-other : (numberAt w a i ≡ numberAt w b i → ⊥) → same (drop i a) (drop i b) ≡ false
   unfolding numberAt
@@ -133,7 +141,8 @@ module _ {w : ℕ} {a b : Bytes} {i : ℕ} (h : Both w a b i) where
 other : {w : ℕ} {a b : Bytes} {i : ℕ} → Both w a b i → Both w b a i
 other h = record { first = h .second; second = h .first; bytes-first = h .bytes-second; bytes-second = h .bytes-first }
 
-pub order-word-greater : {w : ℕ} {a b : Bytes} {i : ℕ} → Both w a b i → numberAt w b i < numberAt w a i → order (drop i a) (drop i b) ≡ Greater
+pub order-word-greater : {w : ℕ} {a b : Bytes} {i : ℕ} → Both w a b i → numberAt w b i < numberAt w a i
+    → order (drop i a) (drop i b) ≡ Greater
 order-word-greater {w} {a} {b} {i} h l =
     order-after (drop i a) (drop i b) (order-less (drop i b) (drop i a) (order-word-less (other h) l))
 

@@ -81,7 +81,13 @@ rows-two = refl
 
 -- a head of one byte, which counts the bytes behind it; the item 7 alone is no item
 counted : Format Bytes
-counted = record { head = 1; rest = λ h. number h; item = λ b. cond (same b (1 ∷ 7 ∷ [])) none (some (drop 1 b)); positive = lit≤ tt }
+counted = record {
+  head = 1;
+  rest = λ h. number h;
+  item =
+      λ b. cond (same b (1 ∷ 7 ∷ [])) none (some (drop 1 b));
+  positive = lit≤ tt;
+}
 
 items-two : items counted (1 ∷ 42 ∷ 2 ∷ 8 ∷ 9 ∷ []) ≡ some ((42 ∷ []) ∷ (8 ∷ 9 ∷ []) ∷ [])
 unfolding counted items itemsUpTo firstItem size number digits same

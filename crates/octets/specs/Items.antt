@@ -1,6 +1,6 @@
--- Items of variable length that lie packed, one behind the other, in a run of bytes. An item starts with a head of fixed length, from
--- which the number of bytes behind it is read; so where an item ends depends on its own bytes alone. Store entries, queued messages and
--- recorded commands are such items. A region of a memory is `part m at n`.
+-- Items of variable length that lie packed, one behind the other, in a run of bytes. An item starts with a head of
+-- fixed length, from which the number of bytes behind it is read; so where an item ends depends on its own bytes
+-- alone. Store entries, queued messages and recorded commands are such items. A region of a memory is `part m at n`.
 use mathlib.Core.Path.{_≡_}
 use mathlib.Core.List.{List, [], _∷_, _++_}
 use mathlib.Core.Option.{Option, none, some}
@@ -10,8 +10,8 @@ use lib.Dec.{leb}
 use lib.ListN.{length, take, drop}
 use Rattle.octets.specs.Octets.{Bytes}
 
--- How an item lies in bytes: the length of its head, the number of bytes that follow by the head, and what the whole means, or none
--- where the bytes are no item.
+-- How an item lies in bytes: the length of its head, the number of bytes that follow by the head, and what the whole
+-- means, or none where the bytes are no item.
 pub record Format (A : Type 0) : Type 0 where
   pub head : ℕ
   pub rest : Bytes → ℕ

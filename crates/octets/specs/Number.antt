@@ -1,4 +1,5 @@
--- Numbers in bytes, the highest byte first, over any width. Document 01 writes every number of two, three and four bytes so.
+-- Numbers in bytes, the highest byte first, over any width. Document 01 writes every number of two, three and four
+-- bytes so.
 use mathlib.Core.List.{List, [], _∷_, _++_}
 use mathlib.Core.Path.{_≡_, refl}
 use Prim.Native.Nat.{ℕ, zero, suc, _+_, _*_, _/_, _%_, _^_, _≤_, _<_}

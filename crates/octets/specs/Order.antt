@@ -21,6 +21,7 @@ before [] (b ∷ t) = true
 before (a ∷ s) [] = false
 before (a ∷ s) (b ∷ t) = cond (ltb a b) true (cond (eqb a b) (before s t) false)
 
--- the order of two lists of bytes: Less where the first comes before the second, Equal where they are equal, Greater else
+-- the order of two lists of bytes: Less where the first comes before the second, Equal where they are equal, Greater
+-- else
 unfoldable pub order : Bytes → Bytes → Order
 order s t = cond (before s t) Less (cond (same s t) Equal Greater)

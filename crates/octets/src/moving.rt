@@ -9,7 +9,8 @@ ghost use Rattle.octets.specs.Part.{part};
 // overwritten before it is read.
 pub fn move_up(s: &mut [u8], from: usize, len: usize, by: usize)
     requires { ⌜ from + len + by ≤ length (now s) ⌝ }
-    ensures { λ _. ⌜ now (s .exit) ≡ sets (now (s .entry)) (from + by) (part (now (s .entry)) from len) ⌝ }
+    ensures { λ _. ⌜ now (s .exit)
+        ≡ sets (now (s .entry)) (from + by) (part (now (s .entry)) from len) ⌝ }
 {
     let to = from + by;
     let mut left = len;
@@ -23,7 +24,8 @@ pub fn move_up(s: &mut [u8], from: usize, len: usize, by: usize)
 // overwritten before it is read.
 pub fn move_down(s: &mut [u8], from: usize, len: usize, by: usize)
     requires { ⌜ (by ≤ from) × (from + len ≤ length (now s)) ⌝ }
-    ensures { λ _. ⌜ now (s .exit) ≡ sets (now (s .entry)) (from - by) (part (now (s .entry)) from len) ⌝ }
+    ensures { λ _. ⌜ now (s .exit)
+        ≡ sets (now (s .entry)) (from - by) (part (now (s .entry)) from len) ⌝ }
 {
     let to = from - by;
     let mut i = 0;

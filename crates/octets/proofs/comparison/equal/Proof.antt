@@ -19,7 +19,8 @@ abbrev μ-loop : tie.MeasureT-loop
 μ-loop a b i₀ i = length a - i
 
 returns : tie.Need-returns Inv-loop μ-loop
-returns c = sym (ne-same (c .before .before .before .args .a .now) (c .before .before .before .args .b .now) (λ e. c .if1 .taken (ap length e)))
+returns c = sym (ne-same (c .before .before .before .args .a .now) (c .before .before .before .args .b .now)
+    (λ e. c .if1 .taken (ap length e)))
 
 loop-holds : tie.Need-loop-holds Inv-loop μ-loop
 loop-holds c = (

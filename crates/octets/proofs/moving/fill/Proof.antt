@@ -8,6 +8,7 @@ use Rattle.octets.proofs.Turns.{fill-turn}
 use Rattle.octets.proofs.moving.fill.Statement.{statement}
 use Rattle.octets.proofs.moving.fill.Tie as tie
 
+-- the first i bytes of the range are filled
 abbrev Inv-loop : tie.InvT-loop
 Inv-loop s₀ from len b i₀ s i = (i ≤ len) × (s ≡ sets s₀ from (replicate i b)) × (length s ≡ length s₀)
 

@@ -10,6 +10,7 @@ use Rattle.octets.proofs.Turns.{move-up-turn}
 use Rattle.octets.proofs.moving.move_up.Statement.{statement}
 use Rattle.octets.proofs.moving.move_up.Tie as tie
 
+-- the bytes of the range but its first `left` are moved
 abbrev Inv-loop : tie.InvT-loop
 Inv-loop s₀ from len by to left₀ s left =
     (to ≡ from + by) × (left ≤ len)
@@ -31,7 +32,8 @@ loop-again c =
       refl,
       omega arith,
       rw (L .inv .2)
-          (move-up-turn (A .s .now) (A .from) (A .from + A .by) (A .len) (L .left) (omega arith) (omega arith) (omega arith) (omega arith)),
+          (move-up-turn (A .s .now) (A .from) (A .from + A .by) (A .len) (L .left) (omega arith) (omega arith)
+          (omega arith) (omega arith)),
       simp length-set (L .inv .3),
     )
 

@@ -15,12 +15,12 @@ fn lesser(a: u8, b: u8) -> u8
     if a < b { a } else { b }
 }
 
-// The smallest of the sixteen bytes at `at`, or 1 where that is less.
+// The smallest of the sixteen bytes at `at`: NUL where one of them is.
 fn least_of_block(s: &[u8], at: usize) -> u8
     requires { ⌜ at + 16 ≤ length (now s) ⌝ }
     ensures { λ r. ⌜ eqb r 0 ≡ hasNul (part (now (s .entry)) at 16) ⌝ }
 {
-    let mut m = 1;
+    let mut m = 255;
     let mut j = 0;
     while j < 16 {
         m = lesser(m, s[at + j]);

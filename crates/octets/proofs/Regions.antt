@@ -11,9 +11,10 @@ use lib.ListN.{length, take, drop, length-append, length-take, length-drop, take
 use lib.Seq.{sets, sets-eq, take-add, drop-drop, length-take-le, drop-length}
 use Rattle.octets.specs.Octets.{Bytes}
 use Rattle.octets.specs.Part.{part}
-use Rattle.octets.specs.Items.{Format, size, firstItem, items, joined, Encodes, Boundary, isSome}
-use Rattle.octets.proofs.Parts.{length-part, take-part, drop-part, part-part, part-sets-before}
+use Rattle.octets.specs.Items.{Format, size, sizeAt, firstItem, items, joined, Encodes, Boundary, isSome}
+use Rattle.octets.proofs.Parts.{length-part, take-part, drop-part, part-part, part-add, part-sets-before}
 use Rattle.octets.proofs.Parts.{part-sets-after, part-sets-within, part-sets-end, part-sets-moved}
+use Rattle.octets.proofs.Parts.{part-sets-part}
 use Rattle.octets.proofs.Items.{items-nil, items-append, items-one, items-snoc, items-empty, items-uncons}
 use Rattle.octets.proofs.Items.{Uncons, items-first}
 use Rattle.octets.proofs.Items.{head-le-size, size-part, first-item, items-short, isSome-joined}
@@ -95,16 +96,12 @@ module _ {A : Type 0} (F : Format A) where
   length-part-le : (m : Bytes) (at n : ℕ) → length (part m at n) ≤ n
   length-part-le m at n = rw length-take (omega arith)
 
-  -- how many bytes the item at an index takes, by its head
-  abbrev pub sizeAt : Bytes → ℕ → ℕ
-  sizeAt m at = F .head + F .rest (part m at (F .head))
-
   size-next : (m : Bytes) (at n i : ℕ) {xs ys : List A} {y : A} → Boundary F (part m at n) i xs (y ∷ ys)
-      → (size F (drop i (part m at n)) ≡ sizeAt m (at + i)) × (i + sizeAt m (at + i) ≤ n)
+      → (size F (drop i (part m at n)) ≡ sizeAt F m (at + i)) × (i + sizeAt F m (at + i) ≤ n)
   size-next m at n i {xs} {ys} {y} b =
       let f : i + size F (drop i (part m at n)) ≤ length (part m at n) = next-of b .fits in
       let h : F .head ≤ n - i = omega (arith, head-le-size F (drop i (part m at n)), length-part-le m at n) in
-      let e : size F (drop i (part m at n)) ≡ sizeAt m (at + i) = ap (size F) (drop-part m at n i)
+      let e : size F (drop i (part m at n)) ≡ sizeAt F m (at + i) = ap (size F) (drop-part m at n i)
       ∙ size-part F m (at + i) (n - i) h in
       (e, omega (arith, length-part-le m at n))
 
@@ -114,9 +111,9 @@ module _ {A : Type 0} (F : Format A) where
     pub others : List A
     pub is : ys ≡ item ∷ others
     pub head-fits : i + F .head ≤ n
-    pub fits : i + sizeAt m (at + i) ≤ n
-    pub encodes : Encodes F (part m (at + i) (sizeAt m (at + i))) item
-    pub next : Boundary F (part m at n) (i + sizeAt m (at + i)) (xs ++ (item ∷ [])) others
+    pub fits : i + sizeAt F m (at + i) ≤ n
+    pub encodes : Encodes F (part m (at + i) (sizeAt F m (at + i))) item
+    pub next : Boundary F (part m at n) (i + sizeAt F m (at + i)) (xs ++ (item ∷ [])) others
 
   pub item-at : (m : Bytes) (at n i : ℕ) {xs ys : List A} → Boundary F (part m at n) i xs ys → at + n ≤ length m
       → i < n
@@ -131,7 +128,7 @@ module _ {A : Type 0} (F : Format A) where
         is = u .is;
         head-fits = omega (arith, z .1);
         fits = z .1;
-        encodes = rw (z .0, part-part m at n i (sizeAt m (at + i)) (z .1)) at (next-of b′ .encodes);
+        encodes = rw (z .0, part-part m at n i (sizeAt F m (at + i)) (z .1)) at (next-of b′ .encodes);
         next = rw (z .0) at (boundary-next b′);
       }
 
@@ -141,9 +138,9 @@ module _ {A : Type 0} (F : Format A) where
     pub others : List A
     pub is : xs ≡ item ∷ others
     pub head-fits : F .head ≤ n
-    pub fits : sizeAt m at ≤ n
-    pub encodes : Encodes F (part m at (sizeAt m at)) item
-    pub behind : items F (part m (at + sizeAt m at) (n - sizeAt m at)) ≡ some others
+    pub fits : sizeAt F m at ≤ n
+    pub encodes : Encodes F (part m at (sizeAt F m at)) item
+    pub behind : items F (part m (at + sizeAt F m at) (n - sizeAt F m at)) ≡ some others
 
   pub first-at : (m : Bytes) (at n : ℕ) (xs : List A) → items F (part m at n) ≡ some xs → at + n ≤ length m → 0 < n
       → FirstAt m at n xs
@@ -151,16 +148,16 @@ module _ {A : Type 0} (F : Format A) where
       let l : length (part m at n) ≡ n = length-part m at n h in
       let u : Uncons F (part m at n) xs = items-uncons F (part m at n) xs e (omega arith) in
       let f : F .head ≤ n = omega (arith, head-le-size F (part m at n), u .front .fits) in
-      let z : size F (part m at n) ≡ sizeAt m at = size-part F m at n f in
-      let g : sizeAt m at ≤ n = omega (arith, u .front .fits) in
+      let z : size F (part m at n) ≡ sizeAt F m at = size-part F m at n f in
+      let g : sizeAt F m at ≤ n = omega (arith, u .front .fits) in
       record {
         item = u .item;
         others = u .others;
         is = u .is;
         head-fits = f;
         fits = g;
-        encodes = rw (z, take-part m at n (sizeAt m at) g) at (u .front .encodes);
-        behind = rw (z, drop-part m at n (sizeAt m at)) at (u .behind);
+        encodes = rw (z, take-part m at n (sizeAt F m at) g) at (u .front .encodes);
+        behind = rw (z, drop-part m at n (sizeAt F m at)) at (u .behind);
       }
 
   -- ---- a walk that looks whether items fill a region
@@ -172,32 +169,32 @@ module _ {A : Type 0} (F : Format A) where
       let e : length (part m at n) ≡ n = length-part m at n h in
       items-short F (part m at n) (omega arith) (omega (arith, head-le-size F (part m at n)))
 
-  pub items-part-cut : (m : Bytes) (at n : ℕ) → at + n ≤ length m → 0 < n → F .head ≤ n → n < sizeAt m at
+  pub items-part-cut : (m : Bytes) (at n : ℕ) → at + n ≤ length m → 0 < n → F .head ≤ n → n < sizeAt F m at
       → items F (part m at n) ≡ none
   items-part-cut m at n h k f l =
       let e : length (part m at n) ≡ n = length-part m at n h in
       items-short F (part m at n) (omega arith) (omega (arith, size-part F m at n f))
 
   -- the bytes are no item, or one before others
-  pub items-part-next : (m : Bytes) (at n at′ n′ : ℕ) → at + n ≤ length m → F .head ≤ n → sizeAt m at ≤ n
-      → at′ ≡ at + sizeAt m at → n′ ≡ n - sizeAt m at
-      → items F (part m at n) ≡ joined (F .item (part m at (sizeAt m at))) (items F (part m at′ n′))
+  pub items-part-next : (m : Bytes) (at n at′ n′ : ℕ) → at + n ≤ length m → F .head ≤ n → sizeAt F m at ≤ n
+      → at′ ≡ at + sizeAt F m at → n′ ≡ n - sizeAt F m at
+      → items F (part m at n) ≡ joined (F .item (part m at (sizeAt F m at))) (items F (part m at′ n′))
   items-part-next m at n at′ n′ h f k ea en =
       let e : length (part m at n) ≡ n = length-part m at n h in
-      let z : size F (part m at n) ≡ sizeAt m at = size-part F m at n f in
+      let z : size F (part m at n) ≡ sizeAt F m at = size-part F m at n f in
       let p : 0 < length (part m at n) = omega (arith, F .positive) in
-      let q : firstItem F (part m at n) ≡ F .item (part m at (sizeAt m at)) =
-      first-item F (part m at n) (omega arith) ∙ rw (z, take-part m at n (sizeAt m at) k) in
-      rw (ea, en, ← q, ← (drop-part m at n (sizeAt m at)), ← z) (items-first F (part m at n) p)
+      let q : firstItem F (part m at n) ≡ F .item (part m at (sizeAt F m at)) =
+      first-item F (part m at n) (omega arith) ∙ rw (z, take-part m at n (sizeAt F m at) k) in
+      rw (ea, en, ← q, ← (drop-part m at n (sizeAt F m at)), ← z) (items-first F (part m at n) p)
 
-  pub items-part-none : (m : Bytes) (at n : ℕ) → at + n ≤ length m → F .head ≤ n → sizeAt m at ≤ n
-      → F .item (part m at (sizeAt m at)) ≡ none → items F (part m at n) ≡ none
+  pub items-part-none : (m : Bytes) (at n : ℕ) → at + n ≤ length m → F .head ≤ n → sizeAt F m at ≤ n
+      → F .item (part m at (sizeAt F m at)) ≡ none → items F (part m at n) ≡ none
   items-part-none m at n h f k e =
-      items-part-next m at n (at + sizeAt m at) (n - sizeAt m at) h f k refl refl
-      ∙ ap (λ (o : Option A). joined o (items F (part m (at + sizeAt m at) (n - sizeAt m at)))) e
+      items-part-next m at n (at + sizeAt F m at) (n - sizeAt F m at) h f k refl refl
+      ∙ ap (λ (o : Option A). joined o (items F (part m (at + sizeAt F m at) (n - sizeAt F m at)))) e
 
-  pub isSome-items-part : (m : Bytes) (at n at′ n′ : ℕ) {a : A} → at + n ≤ length m → F .head ≤ n → sizeAt m at ≤ n
-      → at′ ≡ at + sizeAt m at → n′ ≡ n - sizeAt m at → F .item (part m at (sizeAt m at)) ≡ some a
+  pub isSome-items-part : (m : Bytes) (at n at′ n′ : ℕ) {a : A} → at + n ≤ length m → F .head ≤ n → sizeAt F m at ≤ n
+      → at′ ≡ at + sizeAt F m at → n′ ≡ n - sizeAt F m at → F .item (part m at (sizeAt F m at)) ≡ some a
       → isSome (items F (part m at n)) ≡ isSome (items F (part m at′ n′))
   isSome-items-part m at n at′ n′ {a} h f k ea en e =
       ap isSome (items-part-next m at n at′ n′ h f k ea en
@@ -215,6 +212,17 @@ module _ {A : Type 0} (F : Format A) where
       → items F (part (sets m a v) at n) ≡ items F (part m at n)
   items-sets-after m at n a v h = ap (items F) (part-sets-after m a v at n h)
 
+  -- items behind items: a region that grows over the next
+  pub items-join : (m : Bytes) (at n k : ℕ) (xs ys : List A) → items F (part m at n) ≡ some xs
+      → items F (part m (at + n) k) ≡ some ys → items F (part m at (n + k)) ≡ some (xs ++ ys)
+  items-join m at n k xs ys p q =
+      rw (part-add m at n k) (items-append F (part m at n) (part m (at + n) k) xs ys p q)
+
+  -- a region moved from c to a
+  pub items-move : (m : Bytes) (a c n : ℕ) → a + n ≤ length m → c + n ≤ length m
+      → items F (part (sets m a (part m c n)) a n) ≡ items F (part m c n)
+  items-move m a c n h k = ap (items F) (part-sets-part m a c n h k)
+
   -- an item written behind the last
   pub items-push : (m : Bytes) (at n a n′ : ℕ) (b : Bytes) (xs : List A) (x : A) → items F (part m at n) ≡ some xs
       → Encodes F b x
@@ -224,11 +232,11 @@ module _ {A : Type 0} (F : Format A) where
 
   -- the first item left behind
   pub items-pop : (m : Bytes) (at n at′ n′ : ℕ) (x : A) (xs : List A) → items F (part m at n) ≡ some (x ∷ xs)
-      → at′ ≡ at + sizeAt m at → n′ ≡ n - sizeAt m at → items F (part m at′ n′) ≡ some xs
+      → at′ ≡ at + sizeAt F m at → n′ ≡ n - sizeAt F m at → items F (part m at′ n′) ≡ some xs
   items-pop m at n at′ n′ x xs p ea en =
       let b : Boundary F (part m at n) 0 [] (x ∷ xs) = boundary-start (part m at n) (x ∷ xs) p in
       let z = rw (add-zero at) at (size-next m at n 0 b .0) in
-      rw (ea, en) (rw (zero-add (size F (part m at n)), z, drop-part m at n (sizeAt m at)) at (next-of b .behind))
+      rw (ea, en) (rw (zero-add (size F (part m at n)), z, drop-part m at n (sizeAt F m at)) at (next-of b .behind))
 
   -- an item put in at place i: `len` bytes are moved up from a to `to`, and b is written at a
   pub items-insert : (m : Bytes) (at n i a to len n′ : ℕ) (b : Bytes) {xs ys : List A} {y : A}
@@ -253,12 +261,12 @@ module _ {A : Type 0} (F : Format A) where
   -- the item at place i replaced: `len` bytes behind it are moved from c to `to`, and b is written at a
   pub items-replace : (m : Bytes) (at n i a c to len n′ : ℕ) (b : Bytes) {xs ys : List A} {x y : A}
       → Boundary F (part m at n) i xs (x ∷ ys) → Encodes F b y → at + n ≤ length m → at + n′ ≤ length m
-      → a ≡ at + i → c ≡ a + sizeAt m a → to ≡ a + length b → len ≡ n - (i + sizeAt m a) → n′ ≡ i + length b + len
+      → a ≡ at + i → c ≡ a + sizeAt F m a → to ≡ a + length b → len ≡ n - (i + sizeAt F m a) → n′ ≡ i + length b + len
       → items F (part (sets (sets m to (part m c len)) a b) at n′) ≡ some (xs ++ (y ∷ ys))
   items-replace m at n i a c to len n′ b p e h h′ ea ec et el en =
-      let k : ℕ = sizeAt m (at + i) in
+      let k : ℕ = sizeAt F m (at + i) in
       let z = size-next m at n i p in
-      let ek : sizeAt m a ≡ k = ap (sizeAt m) ea in
+      let ek : sizeAt F m a ≡ k = ap (sizeAt F m) ea in
       let ec′ : c ≡ at + (i + k) = omega arith in
       let et′ : to ≡ at + i + length b = omega arith in
       let el′ : len ≡ n - (i + k) = omega arith in
@@ -279,12 +287,12 @@ module _ {A : Type 0} (F : Format A) where
   -- the item at place i replaced by one of as many bytes, where it lies
   pub items-overwrite : (m : Bytes) (at n i a : ℕ) (b : Bytes) {xs ys : List A} {x y : A}
       → Boundary F (part m at n) i xs (x ∷ ys) → Encodes F b y → at + n ≤ length m
-      → a ≡ at + i → length b ≡ sizeAt m a
+      → a ≡ at + i → length b ≡ sizeAt F m a
       → items F (part (sets m a b) at n) ≡ some (xs ++ (y ∷ ys))
   items-overwrite m at n i a b p e h ea eb =
       let l : length (part m at n) ≡ n = length-part m at n h in
       let z = size-next m at n i p in
-      let eb′ : sizeAt m (at + i) ≡ length b = sym (eb ∙ ap (sizeAt m) ea) in
+      let eb′ : sizeAt F m (at + i) ≡ length b = sym (eb ∙ ap (sizeAt F m) ea) in
       let f : i + length b ≤ n = omega (arith, z .1) in
       rw (
         ea,
@@ -298,13 +306,13 @@ module _ {A : Type 0} (F : Format A) where
   -- the item at place i taken out: `len` bytes behind it are moved down from c to a
   pub items-remove : (m : Bytes) (at n i a c len n′ : ℕ) {xs ys : List A} {x : A}
       → Boundary F (part m at n) i xs (x ∷ ys) → at + n ≤ length m
-      → a ≡ at + i → c ≡ a + sizeAt m a → len ≡ n - (i + sizeAt m a) → n′ ≡ n - sizeAt m a
+      → a ≡ at + i → c ≡ a + sizeAt F m a → len ≡ n - (i + sizeAt F m a) → n′ ≡ n - sizeAt F m a
       → items F (part (sets m a (part m c len)) at n′) ≡ some (xs ++ ys)
   items-remove m at n i a c len n′ p h ea ec el en =
-      let k : ℕ = sizeAt m (at + i) in
+      let k : ℕ = sizeAt F m (at + i) in
       let z = size-next m at n i p in
       let f : i + k ≤ n = z .1 in
-      let ek : sizeAt m a ≡ k = ap (sizeAt m) ea in
+      let ek : sizeAt F m a ≡ k = ap (sizeAt F m) ea in
       let ec′ : c ≡ at + (i + k) = omega arith in
       let el′ : len ≡ n - (i + k) = omega arith in
       let en′ : n′ ≡ i + (n - (i + k)) = omega arith in

@@ -9,6 +9,7 @@ use Prim.Native.Nat.{ℕ, zero, suc, _+_, _≤_}
 use lib.Dec.{leb}
 use lib.ListN.{length, take, drop}
 use Rattle.octets.specs.Octets.{Bytes}
+use Rattle.octets.specs.Part.{part}
 
 -- How an item lies in bytes: the length of its head, the number of bytes that follow by the head, and what the whole
 -- means, or none where the bytes are no item.
@@ -28,6 +29,10 @@ module _ {A : Type 0} (F : Format A) where
   -- how many bytes the item in front takes, by its head
   unfoldable pub size : Bytes → ℕ
   size l = F .head + F .rest (take (F .head) l)
+
+  -- the same of the item at an index of a memory, as code reads it
+  abbrev pub sizeAt : Bytes → ℕ → ℕ
+  sizeAt m at = F .head + F .rest (part m at (F .head))
 
   -- the item in front, or none where it is not whole or no item
   unfoldable pub firstItem : Bytes → Option A

@@ -3,7 +3,7 @@
 use mathlib.Core.Path.{_≡_, refl, sym, ap, ap₂, _∙_}
 use mathlib.Core.List.{List, [], _∷_, _++_}
 use mathlib.Core.Bool.{Bool, true, false}
-use Prim.Native.Nat.{ℕ, zero, suc, _+_, _-_, _*_, _^_, _≤_, _<_}
+use Prim.Native.Nat.{ℕ, zero, suc, _+_, _-_, _*_, _/_, _%_, _^_, _≤_, _<_}
 use native.Mathlib.Nat.{lt-irrefl, zero-mul, zero-add, add-mul, mul-assoc, pow-succ', pow-zero, suc-mul}
 use native.Mathlib.Nat.{mul-le-mul-right, mul-one, add-zero}
 use native.Mathlib.Numerals.{add-one}
@@ -12,12 +12,12 @@ use lib.ListN.{length, take, drop, getD, take-append-drop, drop-of-length-le}
 use lib.Seq.{getD-drop, drop-drop, drop-cons}
 use Rattle.octets.specs.Octets.{Bytes, Bounded}
 use Rattle.octets.specs.Part.{part}
-use Rattle.octets.specs.Number.{digits, number, numberAt}
+use Rattle.octets.specs.Number.{digits, number, numberAt, bigEndian}
 use Rattle.octets.specs.Order.{same, before, order}
 use Rattle.octets.specs.declared.comparison.Order.{Order}
 use Rattle.octets.specs.declared.comparison.Order.the-variants.{Less, Equal, Greater}
 use Rattle.octets.proofs.Parts.{length-part}
-use Rattle.octets.proofs.Numbers.{number-cons}
+use Rattle.octets.proofs.Numbers.{number-cons, length-bigEndian, number-bigEndian}
 use Rattle.octets.proofs.Orders.{Compared, below, level, above, compared, order-below, order-level}
 use Rattle.octets.proofs.Orders.{order-above, order-less, order-after}
 use Rattle.octets.proofs.Orders.{same-level, same-other, ne-same}
@@ -68,6 +68,36 @@ number-injective (a ∷ x) (b ∷ y) e h k q =
         let e′ : length x ≡ length y = omega arith in
         let p : a * 256 ^ length x ≡ b * 256 ^ length y = ap₂ (λ (c n : ℕ). c * 256 ^ n) l e′ in
         ap₂ (λ (c : ℕ) (t : Bytes). c ∷ t) l (ih (omega (arith, number-cons a x, number-cons b y)))
+
+-- ---- the bytes of a number that was read
+
+bounded-append : (x y : Bytes) → Bounded x → Bounded y → Bounded (x ++ y)
+bounded-append [] y h k i = k i
+bounded-append (a ∷ x) y h k zero = h zero
+bounded-append (a ∷ x) y h k (suc i) = bounded-append x y (λ j. h (suc j)) k i
+
+pub bounded-bigEndian : (w v : ℕ) → Bounded (bigEndian w v)
+unfolding bigEndian
+bounded-bigEndian zero v = λ i. omega arith
+bounded-bigEndian (suc w) v = bounded-append (bigEndian w (v / 256)) (v % 256 ∷ []) (bounded-bigEndian w (v / 256)) last
+  where
+    last : Bounded (v % 256 ∷ [])
+    last zero = omega arith
+    last (suc i) = omega arith
+
+pub bigEndian-number : (s : Bytes) → Bounded s → bigEndian (length s) (number s) ≡ s
+bigEndian-number s h =
+    number-injective (bigEndian (length s) (number s)) s (length-bigEndian (length s) (number s))
+    (bounded-bigEndian (length s) (number s)) h (number-bigEndian (length s) (number s) (number-bound s h))
+
+pub bigEndian-numberAt : (w : ℕ) (s : Bytes) (at : ℕ) → Bounded s → at + w ≤ length s
+    → bigEndian w (numberAt w s at) ≡ part s at w
+unfolding numberAt
+bigEndian-numberAt w s at h k =
+    let l : length (part s at w) ≡ w = length-part s at w k in
+    rw l at (bigEndian-number (part s at w) (bounded-part s at w h))
+
+-- ---- words before other bytes
 
 -- the bytes behind do not matter
 number-order : (x y s t : Bytes) → length x ≡ length y → Bounded x → Bounded y → number x < number y

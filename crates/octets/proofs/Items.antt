@@ -3,19 +3,18 @@ use mathlib.Core.Path.{_≡_, refl, sym, ap, ap₂, subst, _∙_}
 use mathlib.Core.List.{List, [], _∷_, _++_, append-assoc, append-nil}
 use mathlib.Core.Option.{Option, none, some, Option·some-injective, Option·none-ne-some}
 use mathlib.Core.Bool.{Bool, true, false, cond}
-use Prim.Native.Nat.{ℕ, zero, suc, _+_, _-_, _≤_, _<_}
-use native.Mathlib.Nat.{le-refl, add-zero, zero-add}
+use Prim.Native.Nat.{ℕ, zero, suc, _+_, _≤_, _<_}
+use native.Mathlib.Nat.{le-refl}
 use native.Mathlib.Omega.{arith}
 use lib.Dec.{leb}
-use lib.ListN.{length, take, drop, length-append, length-take, length-drop, take-append-drop}
-use lib.Seq.{take-append-le, take-append-seam, drop-append-seam, take-take, take-length, drop-drop, length-take-le}
-use lib.Seq.{take-all, take-at}
-use borrow.Author.Tests.{leb-true, leb-false, le-leb, lt-leb}
+use lib.ListN.{length, take, drop, length-append, length-drop, take-append-drop}
+use lib.Seq.{take-append-le, take-append-seam, drop-append-seam, take-take, length-take-le}
+use lib.Seq.{take-at}
+use borrow.Author.Tests.{leb-true, le-leb, lt-leb}
 use Rattle.octets.specs.Octets.{Bytes}
 use Rattle.octets.specs.Part.{part}
 use Rattle.octets.specs.Items.{Format, size, firstItem, itemsUpTo, items, joined, Encodes, Contents, done}
 use Rattle.octets.specs.Items.{more, packed, isSome}
-use Rattle.octets.proofs.Parts.{drop-part, take-part, part-take}
 
 module _ {A : Type 0} (F : Format A) where
   -- ---- how many bytes the item in front takes

@@ -1,22 +1,15 @@
 -- The laws of `same`, `before` and `order`, and of words that stand for their bytes.
 use mathlib.Core.Path.{_≡_, refl, sym, ap, ap₂, _∙_}
-use mathlib.Core.List.{List, [], _∷_, _++_}
+use mathlib.Core.List.{[], _∷_}
 use mathlib.Core.Bool.{Bool, true, false, cond, true≢false}
-use Prim.Native.Nat.{ℕ, zero, suc, _+_, _-_, _*_, _^_, _≤_, _<_}
-use native.Mathlib.Nat.{lt-irrefl, zero-mul, zero-add, add-mul, mul-assoc, pow-succ', pow-zero, suc-mul}
-use native.Mathlib.Nat.{mul-le-mul-right, mul-one, mul-comm}
+use Prim.Native.Nat.{ℕ, zero, suc, _<_}
 use native.Mathlib.Omega.{arith}
-use lib.Dec.{eqb, ltb, lit<}
-use lib.ListN.{length, take, drop, getD, take-append-drop, length-take, length-drop}
-use lib.Seq.{getD-drop, drop-drop, length-take-le}
+use lib.Dec.{eqb}
 use borrow.Author.Tests.{lt-ltb, le-ltb, eq-eqb, ne-eqb, eqb-true}
 use Rattle.octets.specs.Octets.{Bytes}
-use Rattle.octets.specs.Part.{part}
-use Rattle.octets.specs.Number.{digits, number, numberAt}
 use Rattle.octets.specs.Order.{same, before, order}
 use Rattle.octets.specs.declared.comparison.Order.{Order}
 use Rattle.octets.specs.declared.comparison.Order.the-variants.{Less, Equal, Greater}
-use Rattle.octets.proofs.Parts.{length-part}
 
 -- ---- two numbers
 

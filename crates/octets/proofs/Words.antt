@@ -1,11 +1,11 @@
 -- Words with the highest byte first are ordered as their bytes are: the laws by which two lists are compared w bytes
 -- at a time.
 use mathlib.Core.Path.{_≡_, refl, sym, ap, ap₂, _∙_}
-use mathlib.Core.List.{List, [], _∷_, _++_}
-use mathlib.Core.Bool.{Bool, true, false}
-use Prim.Native.Nat.{ℕ, zero, suc, _+_, _-_, _*_, _/_, _%_, _^_, _≤_, _<_}
-use native.Mathlib.Nat.{lt-irrefl, zero-mul, zero-add, add-mul, mul-assoc, pow-succ', pow-zero, suc-mul}
-use native.Mathlib.Nat.{mul-le-mul-right, mul-one, add-zero}
+use mathlib.Core.List.{[], _∷_, _++_}
+use mathlib.Core.Bool.{true, false}
+use Prim.Native.Nat.{ℕ, zero, suc, _+_, _*_, _/_, _%_, _^_, _≤_, _<_}
+use native.Mathlib.Nat.{lt-irrefl, pow-succ', pow-zero, suc-mul}
+use native.Mathlib.Nat.{mul-le-mul-right}
 use native.Mathlib.Numerals.{add-one}
 use native.Mathlib.Omega.{arith}
 use lib.ListN.{length, take, drop, getD, take-append-drop, drop-of-length-le}
@@ -14,7 +14,6 @@ use Rattle.octets.specs.Octets.{Bytes, Bounded}
 use Rattle.octets.specs.Part.{part}
 use Rattle.octets.specs.Number.{digits, number, numberAt, bigEndian}
 use Rattle.octets.specs.Order.{same, before, order}
-use Rattle.octets.specs.declared.comparison.Order.{Order}
 use Rattle.octets.specs.declared.comparison.Order.the-variants.{Less, Equal, Greater}
 use Rattle.octets.proofs.Parts.{length-part}
 use Rattle.octets.proofs.Numbers.{number-cons, length-bigEndian, number-bigEndian}

@@ -1,16 +1,14 @@
 -- Worked examples of this crate's definitions, by computation.
 use mathlib.Core.Path.{_≡_, refl}
-use mathlib.Core.List.{List, [], _∷_, _++_}
-use mathlib.Core.Option.{Option, none, some}
+use mathlib.Core.List.{[], _∷_}
+use mathlib.Core.Option.{none, some}
 use mathlib.Core.Bool.{true, false, cond}
-use Prim.Native.Nat.{ℕ, zero, _≤_}
-use lib.Dec.{lit≤, leb}
-use lib.ListN.{length, take, drop}
-use Rattle.octets.specs.Octets.{Bytes, ascii, hasNul, firstNul}
-use Rattle.octets.specs.Part.{part, apart}
+use lib.Dec.{lit≤}
+use lib.ListN.{length, drop}
+use Rattle.octets.specs.Octets.{Bytes, ascii, firstNul}
+use Rattle.octets.specs.Part.{apart}
 use Rattle.octets.specs.Number.{digits, number, numberAt, bigEndian}
 use Rattle.octets.specs.Order.{same, before, order}
-use Rattle.octets.specs.declared.comparison.Order.{Order}
 use Rattle.octets.specs.declared.comparison.Order.the-variants.{Less, Equal, Greater}
 use Rattle.octets.specs.Table.{rows}
 use Rattle.octets.specs.Items.{Format, size, firstItem, itemsUpTo, items, packed}

@@ -1,8 +1,8 @@
 -- Numbers in bytes, the highest byte first, over any width. Document 01 writes every number of two, three and four
 -- bytes so.
-use mathlib.Core.List.{List, [], _∷_, _++_}
-use mathlib.Core.Path.{_≡_, refl}
-use Prim.Native.Nat.{ℕ, zero, suc, _+_, _*_, _/_, _%_, _^_, _≤_, _<_}
+use mathlib.Core.List.{[], _∷_, _++_}
+use mathlib.Core.Path.{_≡_}
+use Prim.Native.Nat.{ℕ, zero, suc, _+_, _*_, _/_, _%_, _^_, _<_}
 use Rattle.octets.specs.Octets.{Bytes}
 use Rattle.octets.specs.Part.{part}
 

@@ -1,7 +1,7 @@
 // Equality and order of two slices, eight bytes at a time: words with the highest byte first are
 // ordered as their bytes are.
 ghost use mathlib.Core.Path.{_≡_};
-ghost use Prim.Native.Nat.{ℕ, _+_, _≤_, _<_};
+ghost use Prim.Native.Nat.{_<_};
 ghost use lib.ListN.{length, drop};
 ghost use Rattle.octets.specs.Order.{same, order};
 use crate::number::word_at;

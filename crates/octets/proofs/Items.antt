@@ -11,10 +11,19 @@ use lib.ListN.{length, take, drop, length-append, length-drop, take-append-drop}
 use lib.Seq.{take-append-le, take-append-seam, drop-append-seam, take-take, length-take-le}
 use lib.Seq.{take-at}
 use borrow.Author.Tests.{leb-true, le-leb, lt-leb}
-use Rattle.octets.specs.Octets.{Bytes}
+use Rattle.octets.specs.Octets.{Bytes, Bounded}
 use Rattle.octets.specs.Part.{part}
 use Rattle.octets.specs.Items.{Format, size, firstItem, itemsUpTo, items, joined, Encodes, Contents, done}
-use Rattle.octets.specs.Items.{more, packed, isSome}
+use Rattle.octets.specs.Items.{more, packed, Each, isSome}
+
+bounded-front : (x y : Bytes) → Bounded (x ++ y) → Bounded x
+bounded-front [] y h i = omega arith
+bounded-front (a ∷ x) y h zero = h zero
+bounded-front (a ∷ x) y h (suc i) = bounded-front x y (λ j. h (suc j)) i
+
+bounded-back : (x y : Bytes) → Bounded (x ++ y) → Bounded y
+bounded-back [] y h = h
+bounded-back (a ∷ x) y h = bounded-back x y (λ j. h (suc j))
 
 module _ {A : Type 0} (F : Format A) where
   -- ---- how many bytes the item in front takes
@@ -228,17 +237,28 @@ module _ {A : Type 0} (F : Format A) where
 
   -- ---- packed
 
-  pub items-packed : (encode : A → Bytes) (xs : List A) → ((a : A) → Encodes F (encode a) a)
-      → items F (packed encode xs) ≡ some xs
+  contents-packed : (encode : A → Bytes) (xs : List A) → Each (λ (a : A). Encodes F (encode a) a) xs
+      → Contents F (packed encode xs) xs
   unfolding packed
-  items-packed encode xs h = items-contents (go xs)
-    where
-      go : (xs : List A) → Contents F (packed encode xs) xs
-      go [] = done
-      go (a ∷ xs) = more (h a) (go xs)
+  contents-packed encode [] h = done
+  contents-packed encode (a ∷ xs) h = more (h .0) (contents-packed encode xs (h .1))
 
-  pub packed-items : (encode : A → Bytes) → ((b : Bytes) (a : A) → Encodes F b a → encode a ≡ b)
-      → {l : Bytes} {xs : List A} → Contents F l xs → packed encode xs ≡ l
+  pub items-packed : (encode : A → Bytes) (xs : List A) → Each (λ (a : A). Encodes F (encode a) a) xs
+      → items F (packed encode xs) ≡ some xs
+  items-packed encode xs h = items-contents (contents-packed encode xs h)
+
+  -- and back, where an item has one encoding in bytes
+  pub packed-items : (encode : A → Bytes) → ((b : Bytes) (a : A) → Bounded b → Encodes F b a → encode a ≡ b)
+      → {l : Bytes} {xs : List A} → Contents F l xs → Bounded l → packed encode xs ≡ l
   unfolding packed
-  packed-items encode h done = refl
-  packed-items encode h (more {b} {l} {a} e r) = ap₂ (λ (x y : Bytes). x ++ y) (h b a e) (packed-items encode h r)
+  packed-items encode h done k = refl
+  packed-items encode h (more {b} {l} {a} e r) k =
+      ap₂ (λ (x y : Bytes). x ++ y) (h b a (bounded-front b l k) e) (packed-items encode h r (bounded-back b l k))
+
+pub packed-append : {A : Type 0} (encode : A → Bytes) (xs ys : List A)
+    → packed encode (xs ++ ys) ≡ packed encode xs ++ packed encode ys
+unfolding packed
+packed-append encode [] ys = refl
+packed-append encode (a ∷ xs) ys =
+    ap (λ (l : Bytes). encode a ++ l) (packed-append encode xs ys)
+    ∙ sym (append-assoc (encode a) (packed encode xs) (packed encode ys))

@@ -78,7 +78,8 @@ bounded-append (a ∷ x) y h k (suc i) = bounded-append x y (λ j. h (suc j)) k 
 pub bounded-bigEndian : (w v : ℕ) → Bounded (bigEndian w v)
 unfolding bigEndian
 bounded-bigEndian zero v = λ i. omega arith
-bounded-bigEndian (suc w) v = bounded-append (bigEndian w (v / 256)) (v % 256 ∷ []) (bounded-bigEndian w (v / 256)) last
+bounded-bigEndian (suc w) v = bounded-append (bigEndian w (v / 256)) (v % 256 ∷ [])
+    (bounded-bigEndian w (v / 256)) last
   where
     last : Bounded (v % 256 ∷ [])
     last zero = omega arith

@@ -70,6 +70,11 @@ unfoldable pub packed : {A : Type 0} → (A → Bytes) → List A → Bytes
 packed encode [] = []
 packed encode (a ∷ xs) = encode a ++ packed encode xs
 
+-- P holds of each item
+abbrev pub Each : {A : Type 0} → (A → Type 0) → List A → Type 0
+Each P [] = Unit {0}
+Each P (a ∷ xs) = P a × Each P xs
+
 -- whether something is there
 abbrev pub isSome : {A : Type 0} → Option A → Bool
 isSome none = false

@@ -1,2 +1,7 @@
 pub mod Octets
+pub mod Part
+pub mod Number
 pub mod Order
+pub mod Table
+pub mod Items
+mod Examples

@@ -1,0 +1,10 @@
+-- Laws of the definitions, and what the proofs of several functions use.
+pub mod Laws
+mod Lexing
+mod Checking
+mod Keys
+mod Parts
+mod Levels
+mod Bound
+mod Walks
+mod Answers

@@ -16,7 +16,9 @@ use Rattle.pattern.specs.Answer.{outcome, whole, stepsOf, tooLong, answe
 use Rattle.pattern.specs.Syntax.{valid}
 use Rattle.pattern.specs.declared.Match.{Match}
 use Rattle.pattern.specs.declared.Verdict.{Verdict}
-use Rattle.pattern.specs.Contracts.{tokensAt, treeAt, reported, Short, Walked, Ran}
+use Rattle.pattern.specs.Checking.{tokensAt}
+use Rattle.pattern.specs.Walking.{treeAt, reported, Short, Walked, Ran}
+use Rattle.pattern.proofs.Outcomes.{steps-reported}
 
 both-false : (a b : Bool) → a || b ≡ false → (a ≡ false) × (b ≡ false)
 both-false false b e = (refl, e)
@@ -44,18 +46,13 @@ unfolding whole
 whole-left true key k n h = rw (drop-cons key k 0 h)
 whole-left false key k n h = refl
 
-steps-reported : (b : Bool) (k : Bytes) (n : ℕ) → n ≡ stepsOf (reported b k n)
-unfolding stepsOf
-steps-reported true k n = refl
-steps-reported false k n = refl
-
 module _ (p key : Bytes) (r : Walk) (w : Walked (treeAt p) (length p) key 0 0 r) where
   outcome-walk : outcome p key ≡ reported (r .matched) (drop (r .key) key) (r .steps)
   unfolding outcome treeOf tokensAt
   outcome-walk = w .outcome .is
 
   steps-walk : r .steps ≡ stepsOf (outcome p key)
-  steps-walk = steps-reported (r .matched) (drop (r .key) key) (r .steps) ∙ ap stepsOf (sym outcome-walk)
+  steps-walk = sym (ap stepsOf outcome-walk ∙ steps-reported (r .matched) (drop (r .key) key) (r .steps))
 
   -- the key is used up
   pub ran-end : r .key ≡ length key → Ran p key (record { matched = r .matched; steps = r .steps })
@@ -66,10 +63,12 @@ module _ (p key : Bytes) (r : Walk) (w : Walked (treeAt p) (length p) key 0 0 r)
 
   -- some of it is left
   pub ran-left : (r .key ≡ length key → ⊥) → Ran p key (record { matched = false; steps = r .steps })
-  ran-left n = record {
-    matched = whole-left (r .matched) key (r .key) (r .steps) (lt-of-le-ne (w .outcome .key-within) n) ∙ ap whole (sym outcome-walk);
-    steps = steps-walk;
-  }
+  ran-left n =
+      let h = lt-of-le-ne (w .outcome .key-within) n in
+      record {
+        matched = whole-left (r .matched) key (r .key) (r .steps) h ∙ ap whole (sym outcome-walk);
+        steps = steps-walk;
+      }
 
 -- what is given, by what the tests say
 module _ (p key : Bytes) where
@@ -77,7 +76,8 @@ module _ (p key : Bytes) where
   unfolding answer
   answer-invalid v = rw v
 
-  pub answer-long : valid p ≡ true → tooLong p key ≡ true → answer p key ≡ record { answer = 102; matched = false; steps = 0 }
+  pub answer-long : valid p ≡ true → tooLong p key ≡ true
+      → answer p key ≡ record { answer = 102; matched = false; steps = 0 }
   unfolding answer
   answer-long v l = rw (v, l)
 

@@ -1,23 +1,20 @@
--- The bound on the steps, by weight: each element that is no group weighs 1, and costs at most the key's length and 1 each time that it is tried.
-use mathlib.Core.Path.{_≡_, refl}
+-- The bound on the steps: an element that is no group costs at most the key's length and 1 each time that it is tried, and
+-- each is tried at most once.
 use mathlib.Core.List.{List, [], _∷_}
 use mathlib.Core.Bool.{Bool, true, false, cond}
-use Prim.Native.Nat.{ℕ, suc, _+_, _*_, _≤_, _<_}
-use native.Mathlib.Nat.{add-mul, one-mul, zero-mul, mul-le-mul, le-trans}
+use Prim.Native.Nat.{ℕ, _+_, _*_, _≤_}
+use native.Mathlib.Nat.{add-mul, one-mul, mul-le-mul, le-trans}
 use native.Mathlib.Omega.{arith}
 use lib.ListN.{length, drop, length-drop}
 use lib.Dec.{eqb}
 use Rattle.octets.specs.Octets.{Bytes}
-use Rattle.pattern.specs.declared.token.Token.{Token}
-use Rattle.pattern.specs.declared.token.Token.the-variants.{Open, Bar, Close, Star, Any, Byte, Backslash}
 use Rattle.pattern.specs.declared.element.Simple.{Simple}
 use Rattle.pattern.specs.declared.element.Simple.the-variants as Simples
-use Rattle.pattern.specs.Tokens
-use Rattle.pattern.specs.Tokens.{tokens}
-use Rattle.pattern.specs.Tree.{Part, one, opening, bar, closing, parts, Elem, Seq, Branches, simple, group, done, _▸_, last, _or_, Level, outside, inside, branches, above, onFirst, onSeq, grow, tree, first, sequence}
+use Rattle.pattern.specs.Tree.{Elem, Seq, Branches, simple, group, done, _▸_, last, _or_, branches, sequence}
 use Rattle.pattern.specs.Matching.{Outcome, hit, miss, more, andThen, orElse, upto, single, simpleM, elemM, seqM, branchM}
 use Rattle.pattern.specs.Answer.{stepsOf}
-use Rattle.pattern.specs.Contracts.{tokensAt, treeAt, Short}
+use Rattle.pattern.specs.Walking.{treeAt, Short}
+use Rattle.pattern.proofs.Weights.{weightE, weightS, weightB, weight-sequence, weight-branches, weight-at}
 
 unfoldable leftOf : Outcome → ℕ
 leftOf (hit k n) = length k
@@ -36,22 +33,26 @@ few-more m n K (miss a) f = record { steps = omega (arith, f .steps); left = f .
 few-weaken : (m n J K : ℕ) (o : Outcome) → m ≤ n → J ≤ K → Few m J o → Few n K o
 few-weaken m n J K o h l f = record { steps = le-trans (f .steps) h; left = le-trans (f .left) l }
 
-few-then : (a b K : ℕ) (o : Outcome) (f : Bytes → Outcome) → Few a K o → ((k : Bytes) → length k ≤ K → Few b K (f k)) → Few (a + b) K (andThen o f)
+few-then : (a b K : ℕ) (o : Outcome) (f : Bytes → Outcome) → Few a K o → ((k : Bytes) → length k ≤ K → Few b K (f k))
+    → Few (a + b) K (andThen o f)
 unfolding andThen stepsOf leftOf
-few-then a b K (hit k n) f s t = few-weaken (n + b) (a + b) K K _ (omega (arith, s .steps)) (omega arith) (few-more n b K _ (t k (s .left)))
+few-then a b K (hit k n) f s t =
+    few-weaken (n + b) (a + b) K K _ (omega (arith, s .steps)) (omega arith) (few-more n b K _ (t k (s .left)))
 few-then a b K (miss n) f s t = record { steps = omega (arith, s .steps); left = s .left }
 
 few-else : (a b K : ℕ) (o p : Outcome) → Few a K o → Few b K p → Few (a + b) K (orElse o p)
 unfolding orElse stepsOf leftOf
 few-else a b K (hit k n) p s t = record { steps = omega (arith, s .steps); left = s .left }
-few-else a b K (miss n) p s t = few-weaken (n + b) (a + b) K K _ (omega (arith, s .steps)) (omega arith) (few-more n b K _ t)
+few-else a b K (miss n) p s t =
+    few-weaken (n + b) (a + b) K K _ (omega (arith, s .steps)) (omega arith) (few-more n b K _ t)
 
 few-upto : (c : ℕ) (k : Bytes) → Few (length k + 1) (length k) (upto c k)
 unfolding upto more stepsOf leftOf
 few-upto c [] = record { steps = omega arith; left = omega arith }
 few-upto c (x ∷ k) = found (eqb x c) (few-upto c k)
   where
-    found : (b : Bool) → Few (length k + 1) (length k) (upto c k) → Few (length (x ∷ k) + 1) (length (x ∷ k)) (more 1 (cond b (hit k 0) (upto c k)))
+    found : (b : Bool) → Few (length k + 1) (length k) (upto c k)
+        → Few (length (x ∷ k) + 1) (length (x ∷ k)) (more 1 (cond b (hit k 0) (upto c k)))
     found true f = record { steps = omega arith; left = omega arith }
     found false f =
         few-weaken (1 + (length k + 1)) _ (length k) _ _ (omega arith) (omega arith)
@@ -73,19 +74,6 @@ few-simple K Simples.Any k h = few-weaken 1 _ (length k) _ _ (omega arith) h (fe
 few-simple K (Simples.Upto c) k h = few-weaken (length k + 1) _ (length k) _ _ (omega arith) h (few-upto c k)
 few-simple K Simples.Rest k h = record { steps = omega arith; left = omega arith }
 
-unfoldable mutual
-  weightE : Elem → ℕ
-  weightE (simple x) = 1
-  weightE (group b) = weightB b
-
-  weightS : Seq → ℕ
-  weightS done = 0
-  weightS (e ▸ s) = weightE e + weightS s
-
-  weightB : Branches → ℕ
-  weightB (last s) = weightS s
-  weightB (s or b) = weightS s + weightB b
-
 mutual
   unfolding weightE elemM stepsOf leftOf
 
@@ -100,76 +88,6 @@ mutual
   few-branch : (K : ℕ) (b : Branches) (k : Bytes) → length k ≤ K → Few (weightB b * (K + 1)) K (branchM b k)
   few-branch K (last s) k h = few-seq K s k h
   few-branch K (s or b) k h = rw add-mul (few-else _ _ K _ _ (few-seq K s k h) (few-branch K b k h))
-
-unfoldable weight : Level → ℕ
-weight (outside s) = weightS s
-weight (inside b up) = weightB b + weight up
-
-weight-on : (e : Elem) (l : Level) → weight (onSeq (_▸_ e) l) ≡ weightE e + weight l
-unfolding weight onSeq onFirst weightE
-weight-on e (outside s) = refl
-weight-on e (inside (last s) up) = omega arith
-weight-on e (inside (s or b) up) = omega arith
-
-weight-up : (l : Level) → weightB (branches l) + weight (above l) ≤ weight l
-unfolding weight branches above weightE
-weight-up (outside s) = omega arith
-weight-up (inside b up) = omega arith
-
-weight-grow : (x : Part) (l : Level) → weight (grow x l) ≤ weight l + 1
-unfolding grow
-weight-grow (one x) l = rw (weight-on (simple x) l) (unfold weightE in omega arith)
-weight-grow opening l = rw (weight-on (group (branches l)) (above l)) (unfold weightE in omega (arith, weight-up l))
-weight-grow bar l = unfold weight weightE in omega (arith, weight-up l)
-weight-grow closing l = unfold weight weightE in omega arith
-
-weight-tree : (xs : List Part) → weight (tree xs) ≤ length xs
-unfolding tree weight weightE
-weight-tree [] = omega arith
-weight-tree (x ∷ xs) = omega (arith, weight-grow x (tree xs), weight-tree xs)
-
-weight-sequence : (l : Level) → weightS (sequence l) ≤ weight l
-unfolding weight sequence first weightE
-weight-sequence (outside s) = omega arith
-weight-sequence (inside (last s) up) = omega arith
-weight-sequence (inside (s or b) up) = omega arith
-
-weight-branches : (l : Level) → weightB (branches l) ≤ weight l
-weight-branches l = omega (arith, weight-up l)
-
-length-parts : (ts : List Token) → length (parts ts) ≤ length ts
-unfolding parts
-length-parts [] = omega arith
-length-parts (Byte c ∷ ts) = omega (arith, length-parts ts)
-length-parts (Any ∷ ts) = omega (arith, length-parts ts)
-length-parts (Open ∷ ts) = omega (arith, length-parts ts)
-length-parts (Bar ∷ ts) = omega (arith, length-parts ts)
-length-parts (Close ∷ ts) = omega (arith, length-parts ts)
-length-parts (Backslash ∷ ts) = omega (arith, length-parts ts)
-length-parts (Star ∷ []) = omega arith
-length-parts (Star ∷ Byte c ∷ ts) = omega (arith, length-parts ts)
-length-parts (Star ∷ Any ∷ ts) = omega (arith, length-parts ts)
-length-parts (Star ∷ Bar ∷ ts) = omega (arith, length-parts (Bar ∷ ts))
-length-parts (Star ∷ Close ∷ ts) = omega (arith, length-parts (Close ∷ ts))
-length-parts (Star ∷ Open ∷ ts) = omega (arith, length-parts (Open ∷ ts))
-length-parts (Star ∷ Star ∷ ts) = omega (arith, length-parts (Star ∷ ts))
-length-parts (Star ∷ Backslash ∷ ts) = omega (arith, length-parts (Backslash ∷ ts))
-
-length-tokens : (p : Bytes) → length (tokens p) ≤ length p
-unfolding tokens
-length-tokens [] = omega arith
-length-tokens (c ∷ []) = omega arith
-length-tokens (c ∷ d ∷ p) = test (eqb c 92) (length-tokens p) (length-tokens (d ∷ p))
-  where
-    test : (b : Bool) → length (tokens p) ≤ length p → length (tokens (d ∷ p)) ≤ length (d ∷ p)
-        → length (cond b (Byte d ∷ tokens p) (Tokens.single c ∷ tokens (d ∷ p))) ≤ length (c ∷ d ∷ p)
-    test true f g = omega arith
-    test false f g = omega arith
-
-weight-at : (p : Bytes) (at : ℕ) → weight (treeAt p at) ≤ length p
-unfolding tokensAt
-weight-at p at =
-    omega (arith, weight-tree (parts (tokensAt p at)), length-parts (tokensAt p at), length-tokens (drop at p), length-drop at p)
 
 -- from every place of every pattern on, at every key of at most K bytes
 module _ (p : Bytes) (at K : ℕ) (k : Bytes) (h : length k ≤ K) where

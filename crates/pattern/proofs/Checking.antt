@@ -12,31 +12,36 @@ use Rattle.pattern.specs.declared.token.Token.{Token}
 use Rattle.pattern.specs.declared.token.Token.the-variants.{Open, Bar, Close, Star, Any, Byte, Backslash}
 use Rattle.pattern.specs.declared.syntax.Step.the-variants.{On, Enter, Leave, Invalid}
 use Rattle.pattern.specs.Syntax.{starFits, fits}
-use Rattle.pattern.specs.Contracts.{tokensAt, stepOf, StepAt, fitsPast}
+use Rattle.pattern.specs.Checking.{tokensAt, stepOf, StepAt, fitsPast}
 use Rattle.pattern.proofs.Lexing.{tokens-end}
 
 module _ (p : Bytes) (at left next : ℕ) (on : at < next) (within : next ≤ length p) where
-  star : (b : Bool) → starFits (tokensAt p next) ≡ b → tokensAt p at ≡ Star ∷ tokensAt p next → StepAt p at left (cond b (On next) Invalid)
+  star : (b : Bool) → starFits (tokensAt p next) ≡ b → tokensAt p at ≡ Star ∷ tokensAt p next
+      → StepAt p at left (cond b (On next) Invalid)
   unfolding fits
   star true f e = record { on = on; within = within; is = rw (e, f) }
   star false f e = rw (e, f)
 
-  opens : (b : Bool) → ltb 0 left ≡ b → tokensAt p at ≡ Open ∷ tokensAt p next → StepAt p at left (cond b (Enter next) Invalid)
+  opens : (b : Bool) → ltb 0 left ≡ b → tokensAt p at ≡ Open ∷ tokensAt p next
+      → StepAt p at left (cond b (Enter next) Invalid)
   unfolding fits
   opens true f e = (ltb-true _ _ f, record { on = on; within = within; is = rw (e, f) })
   opens false f e = rw (e, f)
 
-  bar : (b : Bool) → ltb left 4 ≡ b → tokensAt p at ≡ Bar ∷ tokensAt p next → StepAt p at left (cond b (On next) Invalid)
+  bar : (b : Bool) → ltb left 4 ≡ b → tokensAt p at ≡ Bar ∷ tokensAt p next
+      → StepAt p at left (cond b (On next) Invalid)
   unfolding fits
   bar true f e = record { on = on; within = within; is = rw (e, f) }
   bar false f e = rw (e, f)
 
-  closes : (b : Bool) → ltb left 4 ≡ b → tokensAt p at ≡ Close ∷ tokensAt p next → StepAt p at left (cond b (Leave next) Invalid)
+  closes : (b : Bool) → ltb left 4 ≡ b → tokensAt p at ≡ Close ∷ tokensAt p next
+      → StepAt p at left (cond b (Leave next) Invalid)
   unfolding fits
   closes true f e = (ltb-true _ _ f, record { on = on; within = within; is = rw (e, f) })
   closes false f e = rw (e, f)
 
-  pub step-token : (t : Token) → tokensAt p at ≡ t ∷ tokensAt p next → StepAt p at left (stepOf t left (starFits (tokensAt p next)) next)
+  pub step-token : (t : Token) → tokensAt p at ≡ t ∷ tokensAt p next
+      → StepAt p at left (stepOf t left (starFits (tokensAt p next)) next)
   unfolding fits
   step-token (Byte c) e = record { on = on; within = within; is = rw e }
   step-token Any e = record { on = on; within = within; is = rw e }
@@ -55,7 +60,8 @@ past-inner left ts h l =
 pub past-group : (left : ℕ) (ts : List Token) → left < 4 → fitsPast left ts ≡ fits (left + 1) ts
 past-group left ts h = rw (lt-ltb left 4 h)
 
-pub past-end : (p : Bytes) (left at : ℕ) → length p ≤ at → left ≡ 4 → fits left (tokensAt p at) ≡ fitsPast left (tokensAt p at)
+pub past-end : (p : Bytes) (left at : ℕ) → length p ≤ at → left ≡ 4
+    → fits left (tokensAt p at) ≡ fitsPast left (tokensAt p at)
 unfolding fits
 past-end p left at h e = rw (tokens-end p at h, e)
 

@@ -3,24 +3,14 @@ use mathlib.Core.Path.{_≡_, refl, _∙_}
 use mathlib.Core.List.{List, [], _∷_}
 use Prim.Native.Nat.{ℕ, suc, _+_, _-_, _<_, _≤_}
 use native.Mathlib.Numerals.{add-one}
-use native.Mathlib.Nat.{zero-add, add-assoc}
 use native.Mathlib.Omega.{arith}
 use lib.ListN.{length, getD, drop, drop-of-length-le}
 use lib.Seq.{drop-cons, drop-length}
 use borrow.Author.Tests.{eq-eqb, ne-eqb}
 use Rattle.octets.specs.Octets.{Bytes}
 use Rattle.pattern.specs.declared.element.Simple.the-variants.{Byte, Any, Rest}
-use Rattle.pattern.specs.Matching.{Outcome, hit, miss, more, upto, single, simpleM}
-
-pub more-zero : (o : Outcome) → o ≡ more 0 o
-unfolding more
-more-zero (hit k n) = rw zero-add
-more-zero (miss n) = rw zero-add
-
-pub more-more : (a b : ℕ) (o : Outcome) → more a (more b o) ≡ more (a + b) o
-unfolding more
-more-more a b (hit k n) = rw add-assoc
-more-more a b (miss n) = rw add-assoc
+use Rattle.pattern.specs.Matching.{hit, miss, more, upto, single, simpleM}
+use Rattle.pattern.proofs.Outcomes.{more-zero, more-more}
 
 module _ (key : Bytes) (k : ℕ) where
   pub byte-hit : (c : ℕ) → k < length key → getD key k 0 ≡ c → simpleM (Byte c) (drop k key) ≡ hit (drop (k + 1) key) 1
@@ -53,7 +43,8 @@ module _ (key : Bytes) (k c : ℕ) where
   upto-start = let z : k - k ≡ 0 = omega arith in rw z (more-zero _)
 
   module _ (i : ℕ) (on : k ≤ i) (so : upto c (drop k key) ≡ more (i - k) (upto c (drop i key))) where
-    pub upto-on : i < length key → (getD key i 0 ≡ c → ⊥) → upto c (drop k key) ≡ more (i + 1 - k) (upto c (drop (i + 1) key))
+    pub upto-on : i < length key → (getD key i 0 ≡ c → ⊥)
+        → upto c (drop k key) ≡ more (i + 1 - k) (upto c (drop (i + 1) key))
     upto-on h n =
         let s : upto c (drop i key) ≡ more 1 (upto c (drop (i + 1) key)) =
         (unfold upto in rw (add-one, drop-cons key i 0, ne-eqb _ _ n))

@@ -1,5 +1,5 @@
--- Theorems about the definitions of this crate: the bound on the steps, what `accepted` is to `answer`, and that nothing of a valid
--- pattern is left out of its tree.
+-- Theorems about the definitions of this crate: the bound on the steps, what `accepted` is to `answer`, and that nothing
+-- of a valid pattern is left out of its tree.
 use mathlib.Core.Path.{_≡_, refl, sym, ap, _∙_}
 use mathlib.Core.List.{List, [], _∷_}
 use mathlib.Core.Bool.{Bool, true, false, _&&_}
@@ -16,7 +16,7 @@ use Rattle.pattern.specs.Tokens.{tokens}
 use Rattle.pattern.specs.Syntax.{starFits, fits, valid}
 use Rattle.pattern.specs.Tree.{parts, Seq, Level, outside, inside, above, onSeq, grow, tree, sequence, treeOf}
 use Rattle.pattern.specs.Answer.{outcome, whole, stepsOf, tooLong, answer, accepted}
-use Rattle.pattern.specs.Contracts.{tokensAt}
+use Rattle.pattern.specs.Checking.{tokensAt}
 use Rattle.pattern.proofs.Answers.{answer-invalid, answer-long, answer-short, accepted-long}
 use Rattle.pattern.proofs.Bound.{steps-sequence}
 
@@ -24,7 +24,8 @@ either : {A : Type 0} (b : Bool) → (b ≡ true → A) → (b ≡ false → A) 
 either true f g = f refl
 either false f g = g refl
 
--- "For P pattern bytes and K key bytes the steps never pass P × (K + 1)": the walk of every pattern, valid or not, at every key.
+-- "For P pattern bytes and K key bytes the steps never pass P × (K + 1)": the walk of every pattern, valid or not, at
+-- every key.
 pub outcome-steps : (p k : Bytes) → stepsOf (outcome p k) ≤ length p * (length k + 1)
 unfolding outcome treeOf tokensAt
 outcome-steps p k = steps-sequence p 0 (length k) k (omega arith)

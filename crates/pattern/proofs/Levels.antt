@@ -3,9 +3,10 @@ use mathlib.Core.Path.{_≡_, refl, sym, ap, _∙_}
 use Prim.Native.Nat.{ℕ, zero, suc, _+_, _-_, _<_, _≤_}
 use native.Mathlib.Numerals.{add-one}
 use native.Mathlib.Omega.{arith}
-use Rattle.pattern.specs.Tree.{Elem, Seq, Branches, Level, one, opening, bar, closing, group, simple, done, _▸_, last, _or_, outside, inside, branches, above, onFirst, onSeq, grow, first, sequence}
+use Rattle.pattern.specs.Tree.{Elem, Seq, Branches, Level, one, opening, bar, closing, group, simple, done, _▸_, last, _or_}
+use Rattle.pattern.specs.Tree.{outside, inside, branches, above, onFirst, onSeq, grow, first, sequence}
 use Rattle.pattern.specs.declared.element.Simple.{Simple}
-use Rattle.pattern.specs.Contracts.{ended, Starts, Continues, PastGroup, NextBranch}
+use Rattle.pattern.specs.Walking.{ended, Starts, Continues, PastGroup, NextBranch}
 use Rattle.pattern.specs.declared.walk.Turn.the-variants.{Another, Over}
 
 pub sequence-on : (e : Elem) (l : Level) → sequence (onSeq (_▸_ e) l) ≡ e ▸ sequence l
@@ -36,7 +37,8 @@ branches-last (outside s) e = refl
 branches-last (inside (last s) up) e = refl
 branches-last (inside (s or b) up) e = let z : _≡_ {A = ℕ} 0 1 = cc in absurd (omega arith)
 
-pub branches-or : (l : Level) (b : Branches) (up : Level) → ended l ≡ inside (done or b) up → branches l ≡ sequence l or b
+pub branches-or : (l : Level) (b : Branches) (up : Level) → ended l ≡ inside (done or b) up
+    → branches l ≡ sequence l or b
 unfolding branches sequence first ended onSeq onFirst
 branches-or (outside s) b up e = let z : _≡_ {A = ℕ} 0 1 = cc in absurd (omega arith)
 branches-or (inside (last s) u) b up e = let z : _≡_ {A = ℕ} 0 1 = cc in absurd (omega arith)
@@ -129,12 +131,24 @@ module _ (lev : ℕ → Level) (size at : ℕ) where
       same z = unfold rise in rw z at (w .is)
 
       pub next-bar : d ≡ 0 → Starts lev size (i + 1) next (lev i) bar → NextBranch lev size at (Another next)
-      next-bar z s = record { on = omega arith; within = s .within; is = sym (same z) ∙ ap ended (s .is) ∙ (unfold ended onSeq onFirst grow in refl) }
+      next-bar z s = record {
+        on = omega arith;
+        within = s .within;
+        is = sym (same z) ∙ ap ended (s .is) ∙ (unfold ended onSeq onFirst grow in refl);
+      }
 
       pub next-close : d ≡ 0 → Starts lev size (i + 1) next (lev i) closing → NextBranch lev size at (Over next)
       next-close z s =
-          let q : ended (lev at) ≡ inside (last done) (lev next) = sym (same z) ∙ ap ended (s .is) ∙ (unfold ended onSeq onFirst grow in refl) in
-          (record { on = omega arith; within = s .within; is = sym (sym (above-ended _) ∙ ap above q ∙ (unfold above in refl)) }, rw q (unfold branches in refl))
+          let q : ended (lev at) ≡ inside (last done) (lev next) =
+          sym (same z) ∙ ap ended (s .is) ∙ (unfold ended onSeq onFirst grow in refl)
+          in (
+            record {
+              on = omega arith;
+              within = s .within;
+              is = sym (sym (above-ended (lev at)) ∙ ap above q ∙ (unfold above in refl));
+            },
+            rw q (unfold branches in refl),
+          )
 
 -- the rest of the branches passed over
 pub above-next : (lev : ℕ → Level) (size i next : ℕ) → Continues lev size i next → above (lev next) ≡ above (lev i)

@@ -12,7 +12,7 @@ use borrow.Author.Tests.{eq-eqb, ne-eqb}
 use Rattle.octets.specs.Octets.{Bytes}
 use Rattle.pattern.specs.declared.token.Token.the-variants.{Byte, Backslash}
 use Rattle.pattern.specs.Tokens.{single, tokens}
-use Rattle.pattern.specs.Contracts.{tokensAt}
+use Rattle.pattern.specs.Checking.{tokensAt}
 
 tokens-plain : (c : ℕ) (q : Bytes) → eqb c 92 ≡ false → tokens (c ∷ q) ≡ single c ∷ tokens q
 unfolding tokens
@@ -32,13 +32,15 @@ module _ (p : Bytes) (at : ℕ) where
   unfolding tokensAt
   token-plain h n = rw (add-one, drop-cons p at 0) (tokens-plain _ _ (ne-eqb _ _ n))
 
-  pub token-last : at < length p → length p ≤ at + 1 → getD p at 0 ≡ 92 → tokensAt p at ≡ Backslash ∷ tokensAt p (at + 1)
+  pub token-last : at < length p → length p ≤ at + 1 → getD p at 0 ≡ 92
+      → tokensAt p at ≡ Backslash ∷ tokensAt p (at + 1)
   unfolding tokensAt tokens single
   token-last h l e =
       let l′ : length p ≤ suc at = omega arith in
       rw (add-one, drop-cons p at 0, drop-of-length-le, e)
 
-  pub token-escape : at + 1 < length p → getD p at 0 ≡ 92 → tokensAt p at ≡ Byte (getD p (at + 1) 0) ∷ tokensAt p (at + 2)
+  pub token-escape : at + 1 < length p → getD p at 0 ≡ 92
+      → tokensAt p at ≡ Byte (getD p (at + 1) 0) ∷ tokensAt p (at + 2)
   unfolding tokensAt
   token-escape h e =
       let h₀ : at < length p = omega arith in

@@ -5,6 +5,9 @@ mod Checking
 mod Keys
 mod Parts
 mod Levels
+mod Weights
 mod Bound
-mod Walks
+mod Outcomes
+mod Sequences
+mod Groups
 mod Answers

@@ -28,7 +28,8 @@ stepsOf (miss n) = n
 unfoldable pub tooLong : Bytes → Bytes → Bool
 tooLong p k = ltb 255 (length p) || ltb 65535 (length k)
 
--- "101 for an invalid pattern, then 102 for a pattern over 255 or a key over 65,535 bytes, with 0 steps"; neither is a match.
+-- "101 for an invalid pattern, then 102 for a pattern over 255 or a key over 65,535 bytes, with 0 steps"; neither is a
+-- match.
 unfoldable pub answer : Bytes → Bytes → Match
 answer p k =
     cond (valid p)

@@ -3,5 +3,7 @@ pub mod Syntax
 pub mod Tree
 pub mod Matching
 pub mod Answer
-pub mod Examples
-pub mod Contracts
+pub mod Table
+pub mod Cases
+pub mod Checking
+pub mod Walking

@@ -29,7 +29,8 @@ unfoldable pub orElse : Outcome → Outcome → Outcome
 orElse (hit k n) o = hit k n
 orElse (miss n) o = more n o
 
--- "takes everything up to and including the next c": one step "for each byte it looks at, and one more if it runs off the end".
+-- "takes everything up to and including the next c": one step "for each byte it looks at, and one more if it runs off
+-- the end".
 unfoldable pub upto : ℕ → Bytes → Outcome
 upto c [] = miss 1
 upto c (x ∷ k) = more 1 (cond (eqb x c) (hit k 0) (upto c k))
@@ -58,8 +59,8 @@ unfoldable mutual
   seqM done k = hit k 0
   seqM (e ▸ s) k = andThen (elemM e k) (seqM s)
 
-  -- "A group tries its branches in order, each from where the group began, and keeps the first that matches; nothing is tried
-  -- again after that."
+  -- "A group tries its branches in order, each from where the group began, and keeps the first that matches; nothing is
+  -- tried again after that."
   pub branchM : Branches → Bytes → Outcome
   branchM (last s) k = seqM s k
   branchM (s or b) k = orElse (seqM s k) (branchM b k)

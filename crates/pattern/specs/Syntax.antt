@@ -1,4 +1,5 @@
--- Which patterns are valid: document 01, "Patterns", from "Invalid, and 101 in SUB or UNSUB" to "Branches may be empty."
+-- Which patterns are valid: document 01, "Patterns", from "Invalid, and 101 in SUB or UNSUB" to "Branches may be
+-- empty."
 use Prim.Native.Nat.{ℕ, _+_, _-_}
 use mathlib.Core.List.{List, [], _∷_}
 use mathlib.Core.Bool.{Bool, true, false, _&&_}

@@ -1,7 +1,7 @@
--- What a pattern is made of (document 01, "Patterns"): a sequence of elements, of which a group is one, with sequences as its branches.
--- The tree is read from the tokens from right to left, each `*` first put together with what stands after it.
--- It is defined for every pattern. In an invalid one a `*` before `*`, `(` or a last `\` takes the rest, a last `\` is the byte `\`,
--- a group that is left open ends at the pattern's end, and the pattern ends at a `|` or `)` outside every group.
+-- What a pattern is made of (document 01, "Patterns"): a sequence of elements. A group is an element, and its branches are
+-- sequences. The tree is made of the tokens from right to left, each `*` first put together with what stands after it.
+-- It is defined for every pattern. In an invalid one a `*` before `*`, `(` or a last `\` takes the rest, a last `\` is the
+-- byte `\`, a group that is left open ends at the pattern's end, and the pattern ends at a `|` or `)` outside every group.
 use Prim.Native.Nat.{ℕ}
 use mathlib.Core.List.{List, [], _∷_}
 use Rattle.octets.specs.Octets.{Bytes}
@@ -52,8 +52,8 @@ mutual
     last : Seq → Branches
     _or_ : Seq → Branches → Branches
 
--- What stands from some place of a pattern on. Inside a group that is the branches from there on, the first of them being
--- what is left of the branch that the place is in, and then what follows the group.
+-- What stands from some place of a pattern on. Inside a group that is the branches from there on, the first of them
+-- being what is left of the branch that the place is in, and then what follows the group.
 pub data Level : Type 0 where
   outside : Seq → Level
   inside : Branches → Level → Level

@@ -1,8 +1,10 @@
-// Patterns over keys (document 01, "Patterns"): whether a pattern is valid, whether it matches a key, and in how
-// many steps. Every function takes any bytes of any length, and no call needs a buffer.
+// Patterns over keys (document 01, "Patterns"): whether a pattern is valid, whether it matches a
+// key, and in how many steps. Every public function takes any bytes of any length, and none needs
+// a buffer.
 //
-// Modules, low to high: token (a pattern byte by byte), syntax (which patterns are valid), element (what one
-// element takes of a key), part (elements and the marks of groups), walk (sequences and branches).
+// Modules, low to high: token (a pattern byte by byte), syntax (which patterns are valid), element
+// (what one element takes of a key), part (elements and the marks of groups), walk (sequences and
+// branches).
 mod element;
 mod part;
 mod syntax;
@@ -16,7 +18,7 @@ ghost use mathlib.Core.Path.{_≡_};
 ghost use mathlib.Core.Bool.{false};
 ghost use Rattle.pattern.specs.Syntax.{valid};
 ghost use Rattle.pattern.specs.Answer.{answer, accepted, tooLong};
-ghost use Rattle.pattern.specs.Contracts.{Ran};
+ghost use Rattle.pattern.specs.Walking.{Ran};
 
 // What a match asked by itself gives: the answer (0, 101 or 102), yes or no, and the steps.
 pub struct Match {
@@ -42,8 +44,9 @@ pub fn is_valid(pattern: &[u8]) -> bool
     }
 }
 
-// Matches the key against the pattern. Answer 101: the pattern is invalid. Answer 102: it is valid and longer
-// than 255 bytes, or the key is longer than 65,535. Both come with no match and 0 steps. Else the answer is 0.
+// Matches the pattern against the key. Answer 101: the pattern is invalid. Answer 102: it is valid,
+// and longer than 255 bytes or the key is longer than 65,535. Both come with no match and 0 steps.
+// Otherwise the answer is 0.
 pub fn matches(pattern: &[u8], key: &[u8]) -> Match
     ensures { λ r. ⌜ r ≡ answer (now (pattern .entry)) (now (key .entry)) ⌝ }
 {
@@ -61,9 +64,9 @@ pub fn matches(pattern: &[u8], key: &[u8]) -> Match
     }
 }
 
-// Whether the pattern matches the key, without the syntax check: for patterns that are known to be valid. It is
-// false for a pattern of over 255 bytes or a key of over 65,535. For an invalid pattern it is whatever the
-// pattern's tree gives.
+// Whether the pattern matches the key, without the syntax check: for patterns that are known to be
+// valid. It is false for a pattern of over 255 bytes or a key of over 65,535. For an invalid pattern
+// it is whatever the pattern's tree gives.
 pub fn accepts(pattern: &[u8], key: &[u8]) -> bool
     ensures { λ r. ⌜ r ≡ accepted (now (pattern .entry)) (now (key .entry)) ⌝ }
 {

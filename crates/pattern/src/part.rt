@@ -5,7 +5,7 @@ use crate::token::token_at;
 ghost use mathlib.Core.Path.{_≡_};
 ghost use Prim.Native.Nat.{_≤_, _<_};
 ghost use lib.ListN.{length};
-ghost use Rattle.pattern.specs.Contracts.{treeAt, starOf, StarAt, PartAt};
+ghost use Rattle.pattern.specs.Walking.{starOf, StarAt, PartAt};
 
 // What stands at a place of a pattern, and where the next part starts.
 pub enum Found {
@@ -47,7 +47,7 @@ pub fn star_at(pattern: &[u8], at: usize) -> Found
 // The part that starts at `at`.
 pub fn part_at(pattern: &[u8], at: usize) -> Found
     requires { ⌜ at < length (now pattern) ⌝ }
-    ensures { λ r. ⌜ PartAt (treeAt (now (pattern .entry))) (length (now (pattern .entry))) at r ⌝ }
+    ensures { λ r. ⌜ PartAt (now (pattern .entry)) at r ⌝ }
 {
     let x = token_at(pattern, at);
     let t = x.token;

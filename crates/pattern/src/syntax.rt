@@ -5,9 +5,10 @@ ghost use mathlib.Core.Path.{_≡_};
 ghost use Prim.Native.Nat.{_≤_, _<_};
 ghost use lib.ListN.{length};
 ghost use Rattle.pattern.specs.Syntax.{mayFollowStar, starFits};
-ghost use Rattle.pattern.specs.Contracts.{tokensAt, stepOf, StepAt, CheckedAt};
+ghost use Rattle.pattern.specs.Checking.{tokensAt, stepOf, StepAt, CheckedAt};
 
-// What a token is to the check: it goes on at a place, a group opens or closes before it, or the pattern is invalid.
+// What a token is to the check: it goes on at a place, a group opens or closes before it, or the
+// pattern is invalid.
 pub enum Step {
     On(usize),
     Enter(usize),
@@ -48,8 +49,8 @@ pub fn star_fits(pattern: &[u8], at: usize) -> bool
     true
 }
 
-// What the token t is to the check where `left` more groups may open, the next token starts at `next`, and
-// `star` says whether a `*` may stand before that one.
+// What the token t is to the check where `left` more groups may open, the next token starts at
+// `next`, and `star` says whether a `*` may stand before that one.
 pub fn step_of(t: Token, left: usize, star: bool, next: usize) -> Step
     ensures { λ r. ⌜ r ≡ stepOf t left star next ⌝ }
 {
@@ -94,8 +95,8 @@ pub fn step_at(pattern: &[u8], at: usize, left: usize) -> Step
     step_of(t, left, star, next)
 }
 
-// Checks from `at` to past the `)` of the group that `at` is in or, outside every group, to the pattern's end.
-// `left` more groups may open in it: 4 outside every group, and one less in each.
+// Checks from `at` to past the `)` of the group that `at` is in or, outside every group, to the
+// pattern's end. `left` more groups may open in it: 4 outside every group, and one less in each.
 pub fn check(pattern: &[u8], at: usize, left: usize) -> Checked
     requires { ⌜ (at ≤ length (now pattern)) × (left ≤ 4) ⌝ }
     ensures { λ r. ⌜ CheckedAt (now (pattern .entry)) at left r ⌝ }

@@ -3,7 +3,7 @@ ghost use mathlib.Core.Path.{_≡_};
 ghost use Prim.Native.Nat.{_<_};
 ghost use lib.ListN.{length};
 ghost use Rattle.pattern.specs.Tokens;
-ghost use Rattle.pattern.specs.Contracts.{TokenAt};
+ghost use Rattle.pattern.specs.Checking.{TokenAt};
 
 // `(`, `|`, `)`, `*`, `?`, an ordinary or escaped byte, and a `\` at the end of the pattern.
 pub enum Token {

@@ -1,14 +1,16 @@
-// The walk along a sequence and the walk over a group's branches. They call each other, and the pattern bytes that
-// remain fall. A walk stops where an element does not match: outside every group that is the end of the match, and
-// inside one only the rest of the branch is passed over.
+// The walk along a sequence and the walk over a group's branches. They call each other, and the
+// pattern bytes that remain fall. A walk stops at the first element that does not match: outside
+// every group that ends the match, and inside one only the rest of the branch is passed over.
 use crate::element::take;
 use crate::part::Found;
 use crate::part::part_at;
 ghost use Prim.Native.Nat.{_≤_};
 ghost use lib.ListN.{length};
-ghost use Rattle.pattern.specs.Contracts.{treeAt, Short, NextBranch, PastGroup, Walked, WalkedOver};
+ghost use Rattle.pattern.specs.Walking.{Short, WalkedAt, WalkedOverAt};
+ghost use Rattle.pattern.specs.Walking.{NextBranchAt, PastGroupAt};
 
-// Where a walk stands in the pattern, whether what it walked matched, where the key goes on, and its steps.
+// Where a walk stands in the pattern, whether what it walked matched, where the key goes on, and
+// its steps.
 pub struct Walk {
     pub at: usize,
     pub matched: bool,
@@ -22,11 +24,11 @@ pub enum Turn {
     Over(usize),
 }
 
-// Goes from `at` to the end of the branch that `at` is in, past the `|` or `)` there. `depth` groups are open
-// inside that branch.
+// Goes from `at` to the end of the branch that `at` is in, past the `|` or `)` there. `depth` groups
+// are open inside that branch.
 pub fn next_branch(pattern: &[u8], at: usize) -> Turn
     requires { ⌜ at ≤ length (now pattern) ⌝ }
-    ensures { λ r. ⌜ NextBranch (treeAt (now (pattern .entry))) (length (now (pattern .entry))) at r ⌝ }
+    ensures { λ r. ⌜ NextBranchAt (now (pattern .entry)) at r ⌝ }
 {
     let mut i = at;
     let mut depth: usize = 0;
@@ -59,7 +61,7 @@ pub fn next_branch(pattern: &[u8], at: usize) -> Turn
 // The place past the group that `at` is in.
 pub fn past_group(pattern: &[u8], at: usize) -> usize
     requires { ⌜ at ≤ length (now pattern) ⌝ }
-    ensures { λ r. ⌜ PastGroup (treeAt (now (pattern .entry))) (length (now (pattern .entry))) at r ⌝ }
+    ensures { λ r. ⌜ PastGroupAt (now (pattern .entry)) at r ⌝ }
 {
     let mut i = at;
     loop {
@@ -71,11 +73,11 @@ pub fn past_group(pattern: &[u8], at: usize) -> usize
     }
 }
 
-// Walks along the sequence from `at` on, and along the key from `from` on, up to the `|` or `)` that ends the
-// sequence, or the pattern's end, or past the first element that does not match.
+// Walks along the sequence from `at` on, and along the key from `from` on, up to the `|` or `)`
+// that ends the sequence, or to the pattern's end, or past the first element that does not match.
 pub fn walk_sequence(pattern: &[u8], at: usize, key: &[u8], from: usize) -> Walk
     requires { ⌜ Short (now pattern) (now key) at from ⌝ }
-    ensures { λ r. ⌜ Walked (treeAt (now (pattern .entry))) (length (now (pattern .entry))) (now (key .entry)) at from r ⌝ }
+    ensures { λ r. ⌜ WalkedAt (now (pattern .entry)) (now (key .entry)) at from r ⌝ }
 {
     let mut i = at;
     let mut k = from;
@@ -125,11 +127,11 @@ pub fn walk_sequence(pattern: &[u8], at: usize, key: &[u8], from: usize) -> Walk
     }
 }
 
-// Walks over a group's branches from the one that starts at `at`, each along the key from `from` on, up to the
-// first that matches, and goes past the group.
+// Walks over a group's branches from the one that starts at `at`, each along the key from `from`
+// on, up to the first that matches, and goes past the group.
 pub fn walk_branches(pattern: &[u8], at: usize, key: &[u8], from: usize) -> Walk
     requires { ⌜ Short (now pattern) (now key) at from ⌝ }
-    ensures { λ r. ⌜ WalkedOver (treeAt (now (pattern .entry))) (length (now (pattern .entry))) (now (key .entry)) at from r ⌝ }
+    ensures { λ r. ⌜ WalkedOverAt (now (pattern .entry)) (now (key .entry)) at from r ⌝ }
 {
     let mut i = at;
     let mut steps: usize = 0;

@@ -1,5 +1,5 @@
 -- `pattern::is_valid` meets its contract: the check of the whole pattern, with four levels left.
-use Rattle.pattern.specs.Contracts.{tokensAt}
+use Rattle.pattern.specs.Checking.{tokensAt}
 use Rattle.pattern.specs.Syntax.{valid}
 use mathlib.Core.Path.{sym}
 use borrow.Author.Needs.{needs}

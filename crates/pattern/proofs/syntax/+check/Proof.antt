@@ -1,5 +1,5 @@
 use Rattle.pattern.proofs.Checking.{past-inner, past-group, past-end, open-end}
-use Rattle.pattern.specs.Contracts.{tokensAt}
+use Rattle.pattern.specs.Checking.{tokensAt}
 use Rattle.pattern.specs.Syntax.{fits}
 use lib.ListN.{length}
 use mathlib.Core.Path.{_≡_, refl, sym, _∙_}

@@ -1,5 +1,5 @@
 -- `pattern::walk::next_branch` meets its contract. The loop's invariant: `depth` groups are open at i, inside the branch that `at` is in.
-use Rattle.pattern.specs.Contracts.{treeAt}
+use Rattle.pattern.specs.Walking.{treeAt}
 use Rattle.pattern.proofs.Parts.{tree-end}
 use Rattle.pattern.proofs.Levels.{Within, within-start, within-one, within-open, within-bar, within-close, next-bar, next-close, over-end}
 use lib.ListN.{length}

@@ -1,6 +1,6 @@
 -- `pattern::walk::past_group` meets its contract. The loop's invariant: i is in the group that `at` is in.
 use Rattle.pattern.specs.Tree.{above}
-use Rattle.pattern.specs.Contracts.{treeAt}
+use Rattle.pattern.specs.Walking.{treeAt}
 use Rattle.pattern.proofs.Levels.{above-next}
 use lib.ListN.{length}
 use mathlib.Core.Path.{_≡_, refl, _∙_}

@@ -1,9 +1,8 @@
--- Document 01's table of patterns under "Checked examples", and further cases, by computation.
+-- Further cases of patterns, by computation, as one statement: half of them are refusals.
 use Prim.Native.Nat.{ℕ}
-use Prim.Native.String.{String}
 use mathlib.Core.Path.{_≡_, refl}
 use mathlib.Core.List.{List, [], _∷_, _++_, map}
-use mathlib.Core.Bool.{Bool, true, false}
+use mathlib.Core.Bool.{Bool, false}
 use lib.ListN.{replicate}
 use Rattle.octets.specs.Octets.{Bytes, ascii}
 use Rattle.pattern.specs.declared.Match.{Match}
@@ -12,43 +11,7 @@ use Rattle.pattern.specs.Syntax.{starFits, fits, valid}
 use Rattle.pattern.specs.Tree.{parts, branches, above, onFirst, onSeq, grow, tree, first, sequence, treeOf}
 use Rattle.pattern.specs.Matching as M
 use Rattle.pattern.specs.Answer.{outcome, whole, stepsOf, tooLong, answer}
-
--- A pattern, a key, yes or no, and the steps.
-abbrev Row : Type 0
-Row = String × String × Bool × ℕ
-
-abbrev yes : Bool
-yes = true
-
-abbrev no : Bool
-no = false
-
-abbrev table : List Row
-table =
-    ("iface.*.mtu", "iface.eth0.mtu", yes, 14)
-    ∷ ("iface.*.mtu", "iface.bridge0.port1.mtu", no, 15)
-    ∷ ("iface.*", "iface.bridge0.port1.mtu", yes, 7)
-    ∷ ("iface.*", "iface.", yes, 7)
-    ∷ ("(a|ab)c", "abc", no, 2)
-    ∷ ("(ab|a)c", "ac", yes, 4)
-    ∷ ("", "", yes, 0)
-    ∷ ("", "a", no, 0)
-    ∷ ("*?", "xy", no, 1)
-    ∷ ("*.b", "a.x.b", no, 3)
-    ∷ ("*", "", yes, 1)
-    ∷ ("((((a))))", "a", yes, 1)
-    ∷ []
-
-abbrev stated : Row → Match
-stated r = record { answer = 0; matched = r .2; steps = r .3 }
-
-abbrev computed : Row → Match
-computed r = answer (ascii (r .0)) (ascii (r .1))
-
--- Every row of the table is what the definitions give.
-pub table-holds : map computed table ≡ map stated table
-unfolding ascii answer tooLong outcome whole stepsOf M.seqM M.simpleM M.single M.upto M.more M.andThen M.orElse single tokens starFits fits valid parts branches above onFirst onSeq grow tree first sequence treeOf
-table-holds = refl
+use Rattle.pattern.specs.Table.{yes, no}
 
 -- Cases that are easy to get wrong: a pattern, a key, and what a match gives.
 abbrev Case : Type 0
@@ -126,5 +89,6 @@ abbrev cases : List Case
 cases = valids ++ refusals
 
 pub cases-hold : map (λ (c : Case). answer (c .0) (c .1)) cases ≡ map (λ (c : Case). c .2) cases
-unfolding ascii answer tooLong outcome whole stepsOf M.seqM M.simpleM M.single M.upto M.more M.andThen M.orElse single tokens starFits fits valid parts branches above onFirst onSeq grow tree first sequence treeOf
+unfolding ascii answer tooLong outcome whole stepsOf M.seqM M.simpleM M.single M.upto M.more M.andThen M.orElse single
+    tokens starFits fits valid parts branches above onFirst onSeq grow tree first sequence treeOf
 cases-hold = refl

@@ -17,7 +17,8 @@ use Rattle.pattern.specs.Syntax.{valid}
 use Rattle.pattern.specs.declared.Match.{Match}
 use Rattle.pattern.specs.declared.Verdict.{Verdict}
 use Rattle.pattern.specs.Checking.{tokensAt}
-use Rattle.pattern.specs.Walking.{treeAt, reported, Short, Walked, Ran}
+use Rattle.pattern.specs.Places.{treeAt, reported}
+use Rattle.pattern.specs.Walking.{Short, Walked, Ran}
 use Rattle.pattern.proofs.Outcomes.{steps-reported}
 
 both-false : (a b : Bool) → a || b ≡ false → (a ≡ false) × (b ≡ false)

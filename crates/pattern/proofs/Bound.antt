@@ -1,5 +1,5 @@
--- The bound on the steps: an element that is no group costs at most the key's length and 1 each time that it is tried, and
--- each is tried at most once.
+-- The bound on the steps: an element that is no group costs at most the key's length and 1 each time that it is tried,
+-- and each is tried at most once.
 use mathlib.Core.List.{List, [], _∷_}
 use mathlib.Core.Bool.{Bool, true, false, cond}
 use Prim.Native.Nat.{ℕ, _+_, _*_, _≤_}
@@ -11,9 +11,11 @@ use Rattle.octets.specs.Octets.{Bytes}
 use Rattle.pattern.specs.declared.element.Simple.{Simple}
 use Rattle.pattern.specs.declared.element.Simple.the-variants as Simples
 use Rattle.pattern.specs.Tree.{Elem, Seq, Branches, simple, group, done, _▸_, last, _or_, branches, sequence}
-use Rattle.pattern.specs.Matching.{Outcome, hit, miss, more, andThen, orElse, upto, single, simpleM, elemM, seqM, branchM}
+use Rattle.pattern.specs.Matching.{Outcome, hit, miss, more, andThen, orElse, upto, single}
+use Rattle.pattern.specs.Matching.{simpleM, elemM, seqM, branchM}
 use Rattle.pattern.specs.Answer.{stepsOf}
-use Rattle.pattern.specs.Walking.{treeAt, Short}
+use Rattle.pattern.specs.Places.{treeAt}
+use Rattle.pattern.specs.Walking.{Short}
 use Rattle.pattern.proofs.Weights.{weightE, weightS, weightB, weight-sequence, weight-branches, weight-at}
 
 unfoldable leftOf : Outcome → ℕ

@@ -1,5 +1,5 @@
--- Theorems about the definitions of this crate: the bound on the steps, what `accepted` is to `answer`, and that nothing
--- of a valid pattern is left out of its tree.
+-- Theorems about the definitions of this crate: the bound on the steps, what `accepted` is to `answer`, and that
+-- nothing of a valid pattern is left out of its tree.
 use mathlib.Core.Path.{_≡_, refl, sym, ap, _∙_}
 use mathlib.Core.List.{List, [], _∷_}
 use mathlib.Core.Bool.{Bool, true, false, _&&_}

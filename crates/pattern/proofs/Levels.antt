@@ -3,10 +3,12 @@ use mathlib.Core.Path.{_≡_, refl, sym, ap, _∙_}
 use Prim.Native.Nat.{ℕ, zero, suc, _+_, _-_, _<_, _≤_}
 use native.Mathlib.Numerals.{add-one}
 use native.Mathlib.Omega.{arith}
-use Rattle.pattern.specs.Tree.{Elem, Seq, Branches, Level, one, opening, bar, closing, group, simple, done, _▸_, last, _or_}
-use Rattle.pattern.specs.Tree.{outside, inside, branches, above, onFirst, onSeq, grow, first, sequence}
+use Rattle.pattern.specs.Tree.{Elem, Seq, Branches, Level, one, opening, bar, closing, group, simple}
+use Rattle.pattern.specs.Tree.{done, _▸_, last, _or_, outside, inside, branches, above, onFirst, onSeq}
+use Rattle.pattern.specs.Tree.{grow, first, sequence}
 use Rattle.pattern.specs.declared.element.Simple.{Simple}
-use Rattle.pattern.specs.Walking.{ended, Starts, Continues, PastGroup, NextBranch}
+use Rattle.pattern.specs.Places.{Starts}
+use Rattle.pattern.specs.Walking.{ended, Continues, PastGroup, NextBranch}
 use Rattle.pattern.specs.declared.walk.Turn.the-variants.{Another, Over}
 
 pub sequence-on : (e : Elem) (l : Level) → sequence (onSeq (_▸_ e) l) ≡ e ▸ sequence l

@@ -8,7 +8,7 @@ use Rattle.octets.specs.Octets.{Bytes}
 use Rattle.pattern.specs.Tree.{Branches, Level, last, _or_, outside, inside, branches, first, sequence}
 use Rattle.pattern.specs.Matching.{Outcome, hit, miss, more, andThen, orElse, seqM, branchM}
 use Rattle.pattern.specs.Answer.{stepsOf}
-use Rattle.pattern.specs.Walking.{reported}
+use Rattle.pattern.specs.Places.{reported}
 
 pub more-zero : (o : Outcome) → o ≡ more 0 o
 unfolding more
@@ -41,18 +41,20 @@ steps-else (hit k n) p = omega arith
 steps-else (miss n) p = omega (arith, steps-more n p)
 
 -- The branches at a key, by the one that comes first: it matches, it is the last, or another follows.
-pub branch-hit : (l : Level) (k k₁ : Bytes) (n : ℕ) → seqM (sequence l) k ≡ hit k₁ n → branchM (branches l) k ≡ hit k₁ n
+pub branch-hit : (l : Level) (k k₁ : Bytes) (n : ℕ) → seqM (sequence l) k ≡ hit k₁ n
+    → branchM (branches l) k ≡ hit k₁ n
 unfolding branches sequence first branchM orElse
 branch-hit (outside s) k k₁ n e = e
 branch-hit (inside (last s) up) k k₁ n e = e
 branch-hit (inside (s or b) up) k k₁ n e = rw e
 
-pub branch-last : (l : Level) (k : Bytes) → branches l ≡ last (sequence l) → branchM (branches l) k ≡ seqM (sequence l) k
+pub branch-last : (l : Level) (k : Bytes) → branches l ≡ last (sequence l)
+    → branchM (branches l) k ≡ seqM (sequence l) k
 unfolding branchM
 branch-last l k e = rw e
 
-pub branch-next : (l : Level) (b : Branches) (k : Bytes) (n : ℕ) → branches l ≡ sequence l or b → seqM (sequence l) k ≡ miss n
-    → branchM (branches l) k ≡ more n (branchM b k)
+pub branch-next : (l : Level) (b : Branches) (k : Bytes) (n : ℕ) → branches l ≡ sequence l or b
+    → seqM (sequence l) k ≡ miss n → branchM (branches l) k ≡ more n (branchM b k)
 unfolding branchM orElse
 branch-next l b k n e q = rw (e, q)
 

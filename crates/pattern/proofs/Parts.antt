@@ -12,7 +12,7 @@ use Rattle.pattern.specs.declared.part.Found.{Found}
 use Rattle.pattern.specs.declared.part.Found.the-variants as Finds
 use Rattle.pattern.specs.Tree.{Part, outside, done, parts, tree}
 use Rattle.pattern.specs.Checking.{tokensAt}
-use Rattle.pattern.specs.Walking.{treeAt, starOf, Starts, StarAt, PartAt}
+use Rattle.pattern.specs.Places.{treeAt, starOf, Starts, StarAt, PartAt}
 use Rattle.pattern.proofs.Lexing.{tokens-end}
 
 pub tree-end : (p : Bytes) (at : ℕ) → length p ≤ at → treeAt p at ≡ outside done
@@ -42,7 +42,8 @@ module _ (p : Bytes) (at : ℕ) where
     part-star (Finds.Close to) e s = record { on = omega (arith, s .on); within = s .within; is = rw e (s .is) }
 
     -- a token that is a part by itself
-    pub part-token : (ts : List Token) (x : Part) → tokensAt p at ≡ ts → tree (parts ts) ≡ tree (x ∷ parts (tokensAt p next))
+    pub part-token : (ts : List Token) (x : Part) → tokensAt p at ≡ ts
+        → tree (parts ts) ≡ tree (x ∷ parts (tokensAt p next))
         → Starts (treeAt p) (length p) (at + 1) next (treeAt p at) x
     unfolding tree
     part-token ts x e q = record { on = omega arith; within = within; is = rw e q }

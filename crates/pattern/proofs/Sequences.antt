@@ -13,13 +13,15 @@ use Rattle.pattern.specs.Tree.{Elem, Level, one, opening, bar, closing, 
 use Rattle.pattern.specs.Tree.{branches, onSeq, grow, first, sequence}
 use Rattle.pattern.specs.Matching.{hit, miss, more, andThen, simpleM, elemM, seqM}
 use Rattle.pattern.specs.Answer.{stepsOf}
-use Rattle.pattern.specs.Walking.{reported, Took, Starts, ended, Reports, Walked, WalkedOver}
+use Rattle.pattern.specs.Places.{reported, Took, Starts}
+use Rattle.pattern.specs.Walking.{ended, Reports, Walked, WalkedOver}
 use Rattle.pattern.proofs.Outcomes.{more-zero, more-more, steps-more, steps-reported, steps-then}
 use Rattle.pattern.proofs.Levels.{sequence-on, ended-on}
 
 -- The element e stands from i to `to`, and at the key from k on it has this outcome: whether it matches, where the key
 -- goes on, and its steps.
-pub record Passes (lev : ℕ → Level) (size : ℕ) (key : Bytes) (i k to : ℕ) (e : Elem) (b : Bool) (k₁ m : ℕ) : Type 0 where
+pub record Passes (lev : ℕ → Level) (size : ℕ) (key : Bytes) (i k to : ℕ) (e : Elem) (b : Bool) (k₁ m : ℕ)
+    : Type 0 where
   pub on : i < to
   pub within : to ≤ size
   pub key-within : k₁ ≤ length key
@@ -87,7 +89,8 @@ module _ (lev : ℕ → Level) (size : ℕ) (key : Bytes) (at from : ℕ) where
     along-close next s = along-done (rw (s .is) (unfold grow sequence first in refl))
 
     module _ (to : ℕ) (e : Elem) (b : Bool) (k₁ m : ℕ) (s : Passes lev size key i k to e b k₁ m) where
-      whole-is : seqM (sequence (lev at)) (drop from key) ≡ more n (andThen (reported b (drop k₁ key) m) (seqM (sequence (lev to))))
+      whole-is : seqM (sequence (lev at)) (drop from key)
+          ≡ more n (andThen (reported b (drop k₁ key) m) (seqM (sequence (lev to))))
       whole-is =
           let q : sequence (lev i) ≡ e ▸ sequence (lev to) = ap sequence (s .stands) ∙ sequence-on e (lev to) in
           a .is ∙ rw q (unfold seqM in rw (s .is))
@@ -104,7 +107,8 @@ module _ (lev : ℕ → Level) (size : ℕ) (key : Bytes) (at from : ℕ) where
         stands = same-branch;
       }
 
-      pub along-missed : b ≡ false → Walked lev size key at from (record { at = to; matched = false; key = k; steps = n + m })
+      pub along-missed : b ≡ false
+          → Walked lev size key at from (record { at = to; matched = false; key = k; steps = n + m })
       along-missed t = record {
         outcome = record {
           on = omega (arith, a .on, s .on);

@@ -6,4 +6,5 @@ pub mod Answer
 pub mod Table
 pub mod Cases
 pub mod Checking
+pub mod Places
 pub mod Walking

@@ -1,7 +1,8 @@
--- What a pattern is made of (document 01, "Patterns"): a sequence of elements. A group is an element, and its branches are
--- sequences. The tree is made of the tokens from right to left, each `*` first put together with what stands after it.
--- It is defined for every pattern. In an invalid one a `*` before `*`, `(` or a last `\` takes the rest, a last `\` is the
--- byte `\`, a group that is left open ends at the pattern's end, and the pattern ends at a `|` or `)` outside every group.
+-- What a pattern is made of (document 01, "Patterns"): a sequence of elements. A group is an element, and its branches
+-- are sequences. The tree is made of the tokens from right to left, each `*` first put together with what stands after
+-- it. It is defined for every pattern. In an invalid one a `*` before `*`, `(` or a last `\` takes the rest, a last `\`
+-- is the byte `\`, a group that is left open ends at the pattern's end, and the pattern ends at a `|` or `)` outside
+-- every group.
 use Prim.Native.Nat.{ℕ}
 use mathlib.Core.List.{List, [], _∷_}
 use Rattle.octets.specs.Octets.{Bytes}

@@ -3,7 +3,7 @@ ghost use mathlib.Core.Path.{_≡_};
 ghost use Prim.Native.Nat.{_≤_};
 ghost use lib.ListN.{length};
 ghost use Rattle.pattern.specs.Matching;
-ghost use Rattle.pattern.specs.Walking.{Took};
+ghost use Rattle.pattern.specs.Places.{Took};
 ghost use Rattle.pattern.specs.declared.element.Simple.the-variants as Simples;
 
 // An element that is no group: a byte, `?`, `*` up to and including a byte, and `*` that takes the

@@ -65,8 +65,8 @@ pub fn matches(pattern: &[u8], key: &[u8]) -> Match
 }
 
 // Whether the pattern matches the key, without the syntax check: for patterns that are known to be
-// valid. It is false for a pattern of over 255 bytes or a key of over 65,535. For an invalid pattern
-// it is whatever the pattern's tree gives.
+// valid. It is false for a pattern of over 255 bytes or a key of over 65,535. For an invalid
+// pattern it is whatever the pattern's tree gives.
 pub fn accepts(pattern: &[u8], key: &[u8]) -> bool
     ensures { λ r. ⌜ r ≡ accepted (now (pattern .entry)) (now (key .entry)) ⌝ }
 {

@@ -5,7 +5,7 @@ use crate::token::token_at;
 ghost use mathlib.Core.Path.{_≡_};
 ghost use Prim.Native.Nat.{_≤_, _<_};
 ghost use lib.ListN.{length};
-ghost use Rattle.pattern.specs.Walking.{starOf, StarAt, PartAt};
+ghost use Rattle.pattern.specs.Places.{starOf, StarAt, PartAt};
 
 // What stands at a place of a pattern, and where the next part starts.
 pub enum Found {

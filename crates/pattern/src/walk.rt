@@ -24,8 +24,8 @@ pub enum Turn {
     Over(usize),
 }
 
-// Goes from `at` to the end of the branch that `at` is in, past the `|` or `)` there. `depth` groups
-// are open inside that branch.
+// Goes from `at` to the end of the branch that `at` is in, past the `|` or `)` there. `depth`
+// groups are open inside that branch.
 pub fn next_branch(pattern: &[u8], at: usize) -> Turn
     requires { ⌜ at ≤ length (now pattern) ⌝ }
     ensures { λ r. ⌜ NextBranchAt (now (pattern .entry)) at r ⌝ }

@@ -1,4 +1,5 @@
--- `pattern::element::take_upto` meets its contract. The loop's invariant: no c stands from k to i, and each byte passed is one step.
+-- `pattern::element::take_upto` meets its contract. The loop's invariant: no c stands from k to i, and each byte passed
+-- is one step.
 use Rattle.pattern.specs.Matching.{more, upto}
 use Rattle.pattern.proofs.Keys.{upto-start, upto-on, upto-hit, upto-end}
 use lib.ListN.{length, drop}
@@ -17,7 +18,10 @@ abbrev μ-loop : tie.MeasureT-loop
 returns : tie.Need-returns Inv-loop μ-loop
 returns c =
     let v = c .before .before .before .loop .inv in
-    record { is = upto-hit _ _ _ _ (v .0) (v .2) (c .before .before .loop-test .taken) (c .if1 .taken); within = omega arith }
+    record {
+      is = upto-hit _ _ _ _ (v .0) (v .2) (c .before .before .loop-test .taken) (c .if1 .taken);
+      within = omega arith;
+    }
 
 loop-again : tie.Need-loop-again Inv-loop μ-loop
 loop-again c =

@@ -1,4 +1,5 @@
--- `pattern::part::part_at` meets its contract: each token is a part by itself, but `*`, which `star_at` puts together with what follows.
+-- `pattern::part::part_at` meets its contract: each token is a part by itself, but `*`, which `star_at` puts together
+-- with what follows.
 use Rattle.pattern.specs.Tree.{parts}
 use Rattle.pattern.proofs.Parts.{part-token, part-star}
 use mathlib.Core.Path.{refl}
@@ -45,7 +46,8 @@ returns-6 c =
 returns-7 : tie.Need-returns-7
 returns-7 c =
     let x = c .before .before .before .token-at .ensures in
-    part-star _ _ _ (x .on) (x .within) (c .star-at .result) (rw (c .before .enum-told6 .given .1) at (x .is)) (c .star-at .ensures)
+    let e = rw (c .before .enum-told6 .given .1) at (x .is) in
+    part-star _ _ _ (x .on) (x .within) (c .star-at .result) e (c .star-at .ensures)
 
 pub part-at-spec : {M : Type 1} → statement M
 part-at-spec =

@@ -1,3 +1,5 @@
+-- `pattern::syntax::check` meets its contract. It descends with one level less, which is the measure. The loop's
+-- invariant: what is asked from `at` on is what is asked from i on.
 use Rattle.pattern.proofs.Checking.{past-inner, past-group, past-end, open-end}
 use Rattle.pattern.specs.Checking.{tokensAt}
 use Rattle.pattern.specs.Syntax.{fits}
@@ -26,54 +28,102 @@ abbrev check-below : ℕ → In 1 check-kinds.ps
 check-below t =
     and 1 check-kinds.ps (falls 1 check-kinds.ps _<_ μ-check t) check.Pre
 
-abbrev check-Inv-loop : check-lts.InvT-loop
-check-Inv-loop pattern at left i₀ i = (at ≤ i) × (i ≤ length pattern) × (fits left (tokensAt pattern at) ≡ fits left (tokensAt pattern i))
+abbrev Inv : check-lts.InvT-loop
+Inv pattern at left i₀ i =
+    (at ≤ i) × (i ≤ length pattern) × (fits left (tokensAt pattern at) ≡ fits left (tokensAt pattern i))
 
-abbrev check-μ-loop : check-lts.MeasureT-loop
-check-μ-loop pattern at left i₀ i = length pattern - i
+abbrev μ : check-lts.MeasureT-loop
+μ pattern at left i₀ i = length pattern - i
 
-abbrev check-claims : ℕ → check-lts.Claims
-check-claims t = (step-at-reads.Asked, step-at-reads.Learnt, check-below t, check.Post)
+abbrev C : ℕ → check-lts.Claims
+C t = (step-at-reads.Asked, step-at-reads.Learnt, check-below t, check.Post)
 
-check-loop-again-2 : (t : ℕ) → check-lts.Need-loop-again-2 (check-claims t) (check-at t) check.Post check-Inv-loop check-μ-loop
-check-loop-again-2 t c =
-    let g = rw (c .before .before .before .before .before .s2 .given .1) at (c .before .before .before .before .before .before .before .step-at .ensures) in
+loop-less : (t : ℕ) → check-lts.Need-loop-less (C t) (check-at t) check.Post Inv μ
+loop-less t c =
+    let g = rw (c .before .s .given .1) at (c .before .before .before .step-at .ensures) in
+    omega arith
+
+loop-again : (t : ℕ) → check-lts.Need-loop-again (C t) (check-at t) check.Post Inv μ
+loop-again t c =
+    let p = c .before .before .before in
+    let g = rw (c .before .s .given .1) at (p .step-at .ensures) in
+    (omega arith, omega arith, p .before .before .loop .inv .2 ∙ g .is)
+
+check-requires : (t : ℕ) → check-lts.Need-check-requires (C t) (check-at t) check.Post Inv μ
+check-requires t c κs =
+    let g = rw (c .before .s2 .given .1) at (c .before .before .before .step-at .ensures) in
+    omega arith
+
+loop-less-2 : (t : ℕ) → check-lts.Need-loop-less-2 (C t) (check-at t) check.Post Inv μ
+loop-less-2 t c =
+    let e = c .before .before .before .before .before in
+    let g = rw (e .s2 .given .1) at (e .before .before .step-at .ensures) in
     let h = rw (c .before .r .given .1) at (c .before .before .before .check .ensures) in
-    (omega arith, omega arith, c .before .before .before .before .before .before .before .before .before .loop .inv .2 ∙ g .1 .is ∙ h .is ∙ past-inner _ _ (g .0) (c .before .before .before .before .before .before .before .before .before .before .before .pre .1 .1))
+    omega arith
 
-check-returns : (t : ℕ) → check-lts.Need-returns (check-claims t) (check-at t) check.Post check-Inv-loop check-μ-loop
-check-returns t c =
-    let g = rw (c .before .before .before .before .s2 .given .1) at (c .before .before .before .before .before .before .step-at .ensures) in
+loop-again-2 : (t : ℕ) → check-lts.Need-loop-again-2 (C t) (check-at t) check.Post Inv μ
+loop-again-2 t c =
+    let e = c .before .before .before .before .before in
+    let l = e .before .before .before .before in
+    let g = rw (e .s2 .given .1) at (e .before .before .step-at .ensures) in
+    let h = rw (c .before .r .given .1) at (c .before .before .before .check .ensures) in
+    let e = past-inner _ _ (g .0) (l .before .before .pre .1 .1) in
+    (omega arith, omega arith, l .loop .inv .2 ∙ g .1 .is ∙ h .is ∙ e)
+
+returns : (t : ℕ) → check-lts.Need-returns (C t) (check-at t) check.Post Inv μ
+returns t c =
+    let e = c .before .before .before .before in
+    let g = rw (e .s2 .given .1) at (e .before .before .step-at .ensures) in
     let h = rw (c .enum-told .given .1) at (c .before .before .check .ensures) in
-    c .before .before .before .before .before .before .before .before .loop .inv .2 ∙ g .1 .is ∙ h
+    e .before .before .before .before .loop .inv .2 ∙ g .1 .is ∙ h
 
-check-returns-2 : (t : ℕ) → check-lts.Need-returns-2 (check-claims t) (check-at t) check.Post check-Inv-loop check-μ-loop
-check-returns-2 t c =
-    let g = rw (c .before .s3 .given .1) at (c .before .before .before .step-at .ensures) in
-    record { on = omega arith; within = omega arith; is = c .before .before .before .before .before .loop .inv .2 ∙ g .1 .is ∙ sym (past-group _ _ (g .0)) }
+returns-2 : (t : ℕ) → check-lts.Need-returns-2 (C t) (check-at t) check.Post Inv μ
+returns-2 t c =
+    let p = c .before .before .before in
+    let g = rw (c .before .s3 .given .1) at (p .step-at .ensures) in
+    record {
+      on = omega arith;
+      within = omega arith;
+      is = p .before .before .loop .inv .2 ∙ g .1 .is ∙ sym (past-group _ _ (g .0));
+    }
+
+returns-3 : (t : ℕ) → check-lts.Need-returns-3 (C t) (check-at t) check.Post Inv μ
+returns-3 t c =
+    let p = c .before .before in
+    p .before .before .loop .inv .2 ∙ (rw (c .enum-told2 .given .1) at (p .step-at .ensures))
+
+returns-4 : (t : ℕ) → check-lts.Need-returns-4 (C t) (check-at t) check.Post Inv μ
+returns-4 t c = record {
+  on = omega arith;
+  within = omega arith;
+  is = c .before .before .loop .inv .2 ∙ past-end _ _ _ (c .before .loop-test .left) (c .if1 .taken);
+}
+
+returns-5 : (t : ℕ) → check-lts.Need-returns-5 (C t) (check-at t) check.Post Inv μ
+returns-5 t c = c .before .before .loop .inv .2 ∙ open-end _ _ _ (c .before .loop-test .left) (c .if1 .left)
 
 pub +check-spec : {M : Type 1} → statement M
-+check-spec = close μ-check λ t. check-lts.spec (check-claims t)
++check-spec = close μ-check λ t. check-lts.spec (C t)
     (check-at t)
     check.Post
-    check-Inv-loop
-    check-μ-loop
+    Inv
+    μ
     (λ c. (omega arith, omega arith, refl))
     (λ c κs. search needs)
     (λ c. search needs)
-    (λ c. let g = rw (c .before .s .given .1) at (c .before .before .before .step-at .ensures) in omega arith)
-    (λ c. let g = rw (c .before .s .given .1) at (c .before .before .before .step-at .ensures) in (omega arith, omega arith, c .before .before .before .before .before .loop .inv .2 ∙ g .is))
+    (loop-less t)
+    (loop-again t)
     (λ c. search needs)
     (λ c. (rw (c .before .s2 .given .1) at (c .before .before .before .step-at .ensures)) .0)
-    (λ c κs. let g = rw (c .before .s2 .given .1) at (c .before .before .before .step-at .ensures) in omega arith)
+    (check-requires t)
     (λ c. search needs)
-    (λ c. let g = rw (c .before .before .before .before .before .s2 .given .1) at (c .before .before .before .before .before .before .before .step-at .ensures) in let h = rw (c .before .r .given .1) at (c .before .before .before .check .ensures) in omega arith)
-    (check-loop-again-2 t)
+    (loop-less-2 t)
+    (loop-again-2 t)
     (λ c. search needs)
-    (check-returns t)
+    (returns t)
     (λ c. search needs)
-    (check-returns-2 t)
+    (returns-2 t)
     (λ c. search needs)
-    (λ c. c .before .before .before .before .loop .inv .2 ∙ (rw (c .enum-told2 .given .1) at (c .before .before .step-at .ensures)))
-    (λ c. record { on = omega arith; within = omega arith; is = c .before .before .loop .inv .2 ∙ past-end _ _ _ (c .before .loop-test .left) (c .if1 .taken) })
-    (λ c. c .before .before .loop .inv .2 ∙ open-end _ _ _ (c .before .loop-test .left) (c .if1 .left))
+    (returns-3 t)
+    (returns-4 t)
+    (returns-5 t)

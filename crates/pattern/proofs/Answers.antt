@@ -12,7 +12,7 @@ use Rattle.octets.specs.Octets.{Bytes}
 use Rattle.pattern.specs.declared.walk.Walk.{Walk}
 use Rattle.pattern.specs.Tree.{treeOf}
 use Rattle.pattern.specs.Matching.{Outcome}
-use Rattle.pattern.specs.Answer.{outcome, whole, stepsOf, tooLong, answer, accepted}
+use Rattle.pattern.specs.Answer.{outcome, whole, stepsOf, tooLong, refusal, answer, accepted}
 use Rattle.pattern.specs.Syntax.{valid}
 use Rattle.pattern.specs.declared.Match.{Match}
 use Rattle.pattern.specs.declared.Verdict.{Verdict}
@@ -73,12 +73,12 @@ module _ (p key : Bytes) (r : Walk) (w : Walked (treeAt p) (length p) key 0 0 r)
 
 -- what is given, by what the tests say
 module _ (p key : Bytes) where
-  pub answer-invalid : valid p ≡ false → answer p key ≡ record { answer = 101; matched = false; steps = 0 }
+  pub answer-invalid : valid p ≡ false → answer p key ≡ refusal 101
   unfolding answer
   answer-invalid v = rw v
 
   pub answer-long : valid p ≡ true → tooLong p key ≡ true
-      → answer p key ≡ record { answer = 102; matched = false; steps = 0 }
+      → answer p key ≡ refusal 102
   unfolding answer
   answer-long v l = rw (v, l)
 

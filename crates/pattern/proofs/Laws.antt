@@ -14,7 +14,8 @@ use Rattle.pattern.specs.declared.token.Token.the-variants.{Open, Bar, C
 use Rattle.pattern.specs.declared.Match.{Match}
 use Rattle.pattern.specs.Tokens.{tokens}
 use Rattle.pattern.specs.Syntax.{starFits, fits, valid}
-use Rattle.pattern.specs.Tree.{parts, Seq, Level, outside, inside, above, onSeq, grow, tree, sequence, treeOf}
+use Rattle.pattern.specs.Parts.{parts}
+use Rattle.pattern.specs.Tree.{Seq, Level, outside, inside, above, onSeq, grow, tree, sequence, treeOf}
 use Rattle.pattern.specs.Answer.{outcome, whole, stepsOf, tooLong, answer, accepted}
 use Rattle.pattern.specs.Checking.{tokensAt}
 use Rattle.pattern.proofs.Answers.{answer-invalid, answer-long, answer-short, accepted-long}

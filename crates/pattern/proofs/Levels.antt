@@ -3,7 +3,8 @@ use mathlib.Core.Path.{_≡_, refl, sym, ap, _∙_}
 use Prim.Native.Nat.{ℕ, zero, suc, _+_, _-_, _<_, _≤_}
 use native.Mathlib.Numerals.{add-one}
 use native.Mathlib.Omega.{arith}
-use Rattle.pattern.specs.Tree.{Elem, Seq, Branches, Level, one, opening, bar, closing, group, simple}
+use Rattle.pattern.specs.Parts.{one, opening, bar, closing}
+use Rattle.pattern.specs.Tree.{Elem, Seq, Branches, Level, group, simple}
 use Rattle.pattern.specs.Tree.{done, _▸_, last, _or_, outside, inside, branches, above, onFirst, onSeq}
 use Rattle.pattern.specs.Tree.{grow, first, sequence}
 use Rattle.pattern.specs.declared.element.Simple.{Simple}

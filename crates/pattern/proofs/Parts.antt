@@ -10,7 +10,8 @@ use Rattle.pattern.specs.declared.token.Token.the-variants.{Open, Bar, C
 use Rattle.pattern.specs.declared.element.Simple.the-variants as Simples
 use Rattle.pattern.specs.declared.part.Found.{Found}
 use Rattle.pattern.specs.declared.part.Found.the-variants as Finds
-use Rattle.pattern.specs.Tree.{Part, outside, done, parts, tree}
+use Rattle.pattern.specs.Parts.{Part, parts}
+use Rattle.pattern.specs.Tree.{outside, done, tree}
 use Rattle.pattern.specs.Checking.{tokensAt}
 use Rattle.pattern.specs.Places.{treeAt, starOf, Starts, StarAt, PartAt}
 use Rattle.pattern.proofs.Lexing.{tokens-end}

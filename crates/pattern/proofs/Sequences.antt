@@ -9,7 +9,8 @@ use Rattle.octets.specs.Octets.{Bytes}
 use Rattle.pattern.specs.declared.walk.Walk.{Walk}
 use Rattle.pattern.specs.declared.element.Taken.{Taken}
 use Rattle.pattern.specs.declared.element.Simple.{Simple}
-use Rattle.pattern.specs.Tree.{Elem, Level, one, opening, bar, closing, simple, group, done, _▸_, outside}
+use Rattle.pattern.specs.Parts.{one, opening, bar, closing}
+use Rattle.pattern.specs.Tree.{Elem, Level, simple, group, done, _▸_, outside}
 use Rattle.pattern.specs.Tree.{branches, onSeq, grow, first, sequence}
 use Rattle.pattern.specs.Matching.{hit, miss, more, andThen, simpleM, elemM, seqM}
 use Rattle.pattern.specs.Answer.{stepsOf}

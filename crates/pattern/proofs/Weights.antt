@@ -10,7 +10,8 @@ use Rattle.octets.specs.Octets.{Bytes}
 use Rattle.pattern.specs.declared.token.Token.{Token}
 use Rattle.pattern.specs.declared.token.Token.the-variants.{Open, Bar, Close, Star, Any, Byte, Backslash}
 use Rattle.pattern.specs.Tokens.{single, tokens}
-use Rattle.pattern.specs.Tree.{Part, one, opening, bar, closing, parts, Elem, Seq, Branches, simple, group}
+use Rattle.pattern.specs.Parts.{Part, one, opening, bar, closing, parts}
+use Rattle.pattern.specs.Tree.{Elem, Seq, Branches, simple, group}
 use Rattle.pattern.specs.Tree.{done, _▸_, last, _or_, Level, outside, inside, branches, above, onFirst, onSeq}
 use Rattle.pattern.specs.Tree.{grow, tree, first, sequence}
 use Rattle.pattern.specs.Checking.{tokensAt}

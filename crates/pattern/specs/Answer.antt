@@ -20,6 +20,7 @@ whole (hit [] n) = true
 whole (hit (x ∷ k) n) = false
 whole (miss n) = false
 
+-- The steps of an outcome, a match or not.
 unfoldable pub stepsOf : Outcome → ℕ
 stepsOf (hit k n) = n
 stepsOf (miss n) = n
@@ -28,15 +29,19 @@ stepsOf (miss n) = n
 unfoldable pub tooLong : Bytes → Bytes → Bool
 tooLong p k = ltb 255 (length p) || ltb 65535 (length k)
 
--- "101 for an invalid pattern, then 102 for a pattern over 255 or a key over 65,535 bytes, with 0 steps"; neither is a
--- match.
+-- An answer other than 0 comes with no match and 0 steps.
+abbrev pub refusal : ℕ → Match
+refusal n = record { answer = n; matched = false; steps = 0 }
+
+-- "A match asked by itself gives 101 for an invalid pattern, then 102 for a pattern over 255 or a key over 65,535
+-- bytes, with 0 steps."
 unfoldable pub answer : Bytes → Bytes → Match
 answer p k =
     cond (valid p)
     (cond (tooLong p k)
-    (record { answer = 102; matched = false; steps = 0 })
+    (refusal 102)
     (record { answer = 0; matched = whole (outcome p k); steps = stepsOf (outcome p k) }))
-    (record { answer = 101; matched = false; steps = 0 })
+    (refusal 101)
 
 -- The yes or no alone, with no regard to validity: an invalid pattern counts as its tree.
 unfoldable pub accepted : Bytes → Bytes → Bool

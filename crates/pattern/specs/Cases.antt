@@ -1,4 +1,4 @@
--- Further cases of patterns, by computation, as one statement: half of them are refusals.
+-- Further cases of patterns that are easy to get wrong, by computation, as one statement: half of them are refusals.
 use Prim.Native.Nat.{ℕ}
 use mathlib.Core.Path.{_≡_, refl}
 use mathlib.Core.List.{List, [], _∷_, _++_, map}
@@ -8,12 +8,13 @@ use Rattle.octets.specs.Octets.{Bytes, ascii}
 use Rattle.pattern.specs.declared.Match.{Match}
 use Rattle.pattern.specs.Tokens.{single, tokens}
 use Rattle.pattern.specs.Syntax.{starFits, fits, valid}
-use Rattle.pattern.specs.Tree.{parts, branches, above, onFirst, onSeq, grow, tree, first, sequence, treeOf}
+use Rattle.pattern.specs.Parts.{parts}
+use Rattle.pattern.specs.Tree.{branches, above, onFirst, onSeq, grow, tree, first, sequence, treeOf}
 use Rattle.pattern.specs.Matching as M
-use Rattle.pattern.specs.Answer.{outcome, whole, stepsOf, tooLong, answer}
+use Rattle.pattern.specs.Answer.{outcome, whole, stepsOf, tooLong, refusal, answer}
 use Rattle.pattern.specs.Table.{yes, no}
 
--- Cases that are easy to get wrong: a pattern, a key, and what a match gives.
+-- A pattern, a key, and what a match gives.
 abbrev Case : Type 0
 Case = Bytes × Bytes × Match
 
@@ -21,7 +22,7 @@ abbrev gives : Bytes → Bytes → Bool → ℕ → Case
 gives p k b n = (p, k, record { answer = 0; matched = b; steps = n })
 
 abbrev refused : Bytes → ℕ → Case
-refused p n = (p, ascii "a", record { answer = n; matched = false; steps = 0 })
+refused p n = (p, ascii "a", refusal n)
 
 abbrev valids : List Case
 valids =
@@ -54,7 +55,7 @@ valids =
     -- empty branches
     ∷ gives (ascii "()") [] yes 0
     ∷ gives (ascii "(|)") (ascii "a") no 0
-    -- 255 pattern bytes are not too many
+    -- 255 pattern bytes and 65,535 key bytes are not too many
     ∷ gives (replicate 255 97) (replicate 255 97) yes 255
     ∷ gives (ascii "*") (replicate 65535 97) yes 1
     ∷ []
@@ -81,10 +82,12 @@ refusals =
     -- a valid pattern of 256 bytes is too long; an invalid one is invalid first
     ∷ refused (replicate 256 97) 102
     ∷ refused (ascii "**" ++ replicate 254 97) 101
-    ∷ (ascii "*", replicate 65536 97, record { answer = 102; matched = false; steps = 0 })
-    ∷ (ascii "**", replicate 65536 97, record { answer = 101; matched = false; steps = 0 })
+    -- and so with a key of 65,536 bytes
+    ∷ (ascii "*", replicate 65536 97, refusal 102)
+    ∷ (ascii "**", replicate 65536 97, refusal 101)
     ∷ []
 
+-- Every case is what the definitions give.
 abbrev cases : List Case
 cases = valids ++ refusals
 

@@ -26,6 +26,7 @@ pub record TokenAt (p : Bytes) (at : ℕ) (r : Lexeme) : Type 0 where
   pub on : at < r .next
   pub within : r .next ≤ length p
 
+-- What a token is to the check where `left` more groups may open; `star`: whether a `*` may stand before `next`.
 abbrev pub stepOf : Token → ℕ → Bool → ℕ → Step
 stepOf (Byte c) left star next = Steps.On next
 stepOf Any left star next = Steps.On next
@@ -41,6 +42,7 @@ pub record Asks (p : Bytes) (at next : ℕ) (a b : Bool) : Type 0 where
   pub within : next ≤ length p
   pub is : a ≡ b
 
+-- The check at `at` becomes the one that `r` says.
 abbrev pub StepAt : Bytes → ℕ → ℕ → Step → Type 0
 StepAt p at left (Steps.On next) = Asks p at next (fits left (tokensAt p at)) (fits left (tokensAt p next))
 StepAt p at left (Steps.Enter next) =
@@ -53,11 +55,13 @@ StepAt p at left Steps.Invalid = fits left (tokensAt p at) ≡ false
 abbrev pub fitsPast : ℕ → List Token → Bool
 fitsPast left ts = cond (ltb left 4) (fits (left + 1) ts) true
 
+-- The check from `at` to the end of its group, or of the pattern, stops at `end`.
 pub record CheckedUpto (p : Bytes) (at left end : ℕ) : Type 0 where
   pub on : at ≤ end
   pub within : end ≤ length p
   pub is : fits left (tokensAt p at) ≡ fitsPast left (tokensAt p end)
 
+-- The check from `at` on gives `r`.
 abbrev pub CheckedAt : Bytes → ℕ → ℕ → Checked → Type 0
 CheckedAt p at left (Checks.Upto end) = CheckedUpto p at left end
 CheckedAt p at left Checks.Invalid = fits left (tokensAt p at) ≡ false

@@ -1,5 +1,6 @@
 pub mod Tokens
 pub mod Syntax
+pub mod Parts
 pub mod Tree
 pub mod Matching
 pub mod Answer

@@ -40,6 +40,7 @@ unfoldable pub single : (ℕ → Bool) → Bytes → Outcome
 single test [] = miss 1
 single test (x ∷ k) = cond (test x) (hit k 1) (miss 1)
 
+-- What an element that is no group does at a key.
 unfoldable pub simpleM : Simple → Bytes → Outcome
 -- "An ordinary byte, or \ and a byte, matches that byte."
 simpleM (Byte c) k = single (λ x. eqb x c) k
@@ -50,6 +51,7 @@ simpleM (Upto c) k = upto c k
 simpleM Rest k = hit [] 1
 
 unfoldable mutual
+  -- What any element does: a group does what its branches do, and costs nothing itself.
   pub elemM : Elem → Bytes → Outcome
   elemM (simple x) k = simpleM x k
   elemM (group b) k = branchM b k

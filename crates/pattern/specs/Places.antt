@@ -13,7 +13,8 @@ use Rattle.pattern.specs.declared.element.Simple.the-variants as Simples
 use Rattle.pattern.specs.declared.element.Taken.{Taken}
 use Rattle.pattern.specs.declared.part.Found.{Found}
 use Rattle.pattern.specs.declared.part.Found.the-variants as Finds
-use Rattle.pattern.specs.Tree.{Part, one, opening, bar, closing, parts, Level, grow, tree}
+use Rattle.pattern.specs.Parts.{Part, one, opening, bar, closing, parts}
+use Rattle.pattern.specs.Tree.{Level, grow, tree}
 use Rattle.pattern.specs.Matching.{Outcome, hit, miss}
 use Rattle.pattern.specs.Checking.{tokensAt}
 

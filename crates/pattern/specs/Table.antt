@@ -8,7 +8,8 @@ use Rattle.octets.specs.Octets.{Bytes, ascii}
 use Rattle.pattern.specs.declared.Match.{Match}
 use Rattle.pattern.specs.Tokens.{single, tokens}
 use Rattle.pattern.specs.Syntax.{starFits, fits, valid}
-use Rattle.pattern.specs.Tree.{parts, branches, above, onFirst, onSeq, grow, tree, first, sequence, treeOf}
+use Rattle.pattern.specs.Parts.{parts}
+use Rattle.pattern.specs.Tree.{branches, above, onFirst, onSeq, grow, tree, first, sequence, treeOf}
 use Rattle.pattern.specs.Matching as M
 use Rattle.pattern.specs.Answer.{outcome, whole, stepsOf, tooLong, answer}
 

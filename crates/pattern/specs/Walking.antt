@@ -34,6 +34,7 @@ abbrev pub NextBranch : (ℕ → Level) → ℕ → ℕ → Turn → Type 0
 NextBranch lev size at (Turns.Another next) = Continues lev size at next
 NextBranch lev size at (Turns.Over next) = PastGroup lev size at next × (branches (ended (lev at)) ≡ last done)
 
+-- The contracts over the bytes of a pattern.
 abbrev pub NextBranchAt : Bytes → ℕ → Turn → Type 0
 NextBranchAt p at r = NextBranch (treeAt p) (length p) at r
 
@@ -64,6 +65,7 @@ pub record WalkedOver (lev : ℕ → Level) (size : ℕ) (key : Bytes) (at k : �
   pub outcome : Reports size key at (branchM (branches (lev at)) (drop k key)) r
   pub stands : lev (r .at) ≡ above (lev at)
 
+-- The contracts over the bytes of a pattern.
 abbrev pub WalkedAt : Bytes → Bytes → ℕ → ℕ → Walk → Type 0
 WalkedAt p key at k r = Walked (treeAt p) (length p) key at k r
 

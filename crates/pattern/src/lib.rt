@@ -17,6 +17,7 @@ use walk::walk_sequence;
 ghost use mathlib.Core.Path.{_≡_};
 ghost use mathlib.Core.Bool.{false};
 ghost use Rattle.pattern.specs.Syntax.{valid};
+ghost use Rattle.pattern.specs.Answer;
 ghost use Rattle.pattern.specs.Answer.{answer, accepted, tooLong};
 ghost use Rattle.pattern.specs.Walking.{Ran};
 
@@ -79,7 +80,7 @@ pub fn accepts(pattern: &[u8], key: &[u8]) -> bool
 
 // The result of a match that is refused with `answer`.
 fn refusal(answer: u32) -> Match
-    ensures { λ r. ⌜ r ≡ record { answer = answer; matched = false; steps = 0 } ⌝ }
+    ensures { λ r. ⌜ r ≡ Answer.refusal answer ⌝ }
 {
     Match {
         answer,

@@ -1,0 +1,11 @@
+pub mod Tokens
+pub mod Syntax
+pub mod Parts
+pub mod Tree
+pub mod Matching
+pub mod Answer
+pub mod Table
+pub mod Cases
+pub mod Checking
+pub mod Places
+pub mod Walking

@@ -1,0 +1,9 @@
+pub mod Tests
+pub mod Order
+pub mod Slots
+pub mod Stores
+pub mod Charges
+pub mod Subscriptions
+pub mod Steps
+pub mod Outcomes
+pub mod Changes

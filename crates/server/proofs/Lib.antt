@@ -7,3 +7,10 @@ pub mod Subscriptions
 pub mod Steps
 pub mod Outcomes
 pub mod Changes
+pub mod Queues
+pub mod Limits
+pub mod ClientInvariants
+pub mod Invariants
+pub mod Always
+pub mod Taken
+pub mod Drain

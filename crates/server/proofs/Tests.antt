@@ -12,6 +12,12 @@ pub by-test {ℓ} : {A : Type 0} (P : A → Type ℓ) (b : Bool) {x y : A} → (
 by-test P true f g = f refl
 by-test P false f g = g refl
 
+-- the same where two results hang on the test
+pub by-test-both {ℓ} : {A B : Type 0} (P : A → B → Type ℓ) (b : Bool) {x y : A} {u v : B}
+    → (b ≡ true → P x u) → (b ≡ false → P y v) → P (cond b x y) (cond b u v)
+by-test-both P true f g = f refl
+by-test-both P false f g = g refl
+
 -- a test is true or false
 pub either {ℓ} : {A : Type ℓ} (b : Bool) → (b ≡ true → A) → (b ≡ false → A) → A
 either true f g = f refl

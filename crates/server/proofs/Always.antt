@@ -16,7 +16,7 @@ use Rattle.server.specs.Invariant.{Each}
 use Rattle.server.proofs.Slots.{slotAt-empty}
 use Rattle.server.proofs.Subscriptions.{each-append}
 use Rattle.server.proofs.Outcomes.{Outcome, turned-away, opening, consuming, refusing, running, giving, closing, outcome}
-use Rattle.server.proofs.Changes.{Change, SlotChange, empty, new, changed, slot-change}
+use Rattle.server.proofs.Changes.{Change, SlotChange, vacant, closed-now, opened-now, changed, slot-change}
 
 -- a slot is not free and used at once
 pub free-not-used {ℓ} : {C : Type ℓ} (x : Slot) (c : Client) → x ≡ free → x ≡ used c → C
@@ -47,7 +47,7 @@ module _ (protocol : Protocol) where
     pub state-next : (st : State) (x : Call) → G st → G (serve protocol x st .next)
     pub client-new : (s : Store) (k : Kind) → P s (newClient k) newLog
     pub client-next : (st : State) → G st → (j : ℕ) (c : Client) (l : Log) → slotAt j st ≡ used c → P (st .store) c l
-        → {s : Store} {d : Client} {m : Log} → Change protocol st c l s d m → P s d m
+        → {x : Call} {s : Store} {d : Client} {m : Log} → Change protocol st c l x s d m → P s d m
     pub client-closed : (s : Store) (c : Client) (l : Log) → P s c l → R c l
 
   module _ (G : State → Type 0) (P : Store → Client → Log → Type 0) (R : Client → Log → Type 0) (keeps : Kept G P R) where
@@ -59,8 +59,9 @@ module _ (protocol : Protocol) where
         → SlotChange protocol (t .state) (t .logs) j x (decide protocol x (t .state))
         → P (historyAfter protocol x t .state .store) d (historyAfter protocol x t .logs j)
     unfolding historyAfter serve
-    now-after x t g a j d w (empty e) = free-not-used _ d e w
-    now-after x t g a j d w (new k e l) = let h : d ≡ newClient k = cc in rw (h, l) (keeps .client-new _ k)
+    now-after x t g a j d w (vacant v e) = free-not-used _ d e w
+    now-after x t g a j d w (closed-now c v e h) = free-not-used _ d e w
+    now-after x t g a j d w (opened-now k v e l) = let h : d ≡ newClient k = cc in rw (h, l) (keeps .client-new _ k)
     now-after x t g a j d w (changed c b v e h) =
         let q : d ≡ b = cc in rw q (keeps .client-next (t .state) g j c (t .logs j) v (a .now j c v) h)
 

@@ -27,24 +27,28 @@ use Rattle.server.proofs.Outcomes.{Runs, Records, Speaks, Refuses}
 use Rattle.server.proofs.Outcomes.{Outcome, turned-away, opening, consuming, refusing, running, giving, closing, outcome}
 
 module _ (protocol : Protocol) (st : State) where
-  -- what becomes of the client c and its log l: the store, the client and the log after the call
-  pub data Change (c : Client) (l : Log) : Store → Client → Log → Type 0 where
-    kept : Change c l (st .store) c l
-    served : (m : Bytes) (ms : List Bytes) → c .queue ≡ m ∷ ms → Change c l (st .store) (afterTake c) (logTaken m l)
+  -- what a call makes of the client c and its log l: the store, the client and the log after it
+  pub data Change (c : Client) (l : Log) : Call → Store → Client → Log → Type 0 where
+    kept : (x : Call) → Change c l x (st .store) c l
+    served : (i len : ℕ) (m : Bytes) (ms : List Bytes) → slotAt i st ≡ used c → c .queue ≡ m ∷ ms
+        → Change c l (takes i len) (st .store) (afterTake c) (logTaken m l)
     spoke : (i : ℕ) (bs : Bytes) (n : ℕ) (k : Kind) (x : Reading) (r : Option (List Action))
         → Speaks protocol st i bs n k x c → Records (st .sizes .recordRoom) x (c .recording) r
-        → Change c l (st .store) (withRecording k r c) l
+        → Change c l (feeds i bs) (st .store) (withRecording k r c) l
     was-refused : (i : ℕ) (bs : Bytes) (n : ℕ) (k : Kind) (x : Reading) (r : Refusal)
         → Speaks protocol st i bs n k x c → Refuses protocol st c x r
-        → Change c l (st .store) (shutBy protocol r (withRecording k none c)) (logQueued (error r ∷ []) l)
+        → Change c l (feeds i bs) (st .store) (shutBy protocol r (withRecording k none c)) (logQueued (error r ∷ []) l)
     ran : (i : ℕ) (bs : Bytes) (n : ℕ) (k : Kind) (x : Reading) (xs : List Action)
         → Speaks protocol st i bs n k x c → Runs x (c .recording) xs
         → refusesAny (st .sizes .storeRoom) xs (st .store) (c .patterns) ≡ false
-        → Change c l (storeAfterAll xs (st .store))
+        → Change c l (feeds i bs) (storeAfterAll xs (st .store))
         (afterStep protocol (st .sizes .queueRoom) true xs (st .store) (withRecording k none c))
         (logAfterStep protocol (st .sizes .queueRoom) true xs (st .store) (withRecording k none c) l)
-    watched : (xs : List Action)
-        → Change c l (storeAfterAll xs (st .store))
+    -- the step of another client, the feeder
+    watched : (i : ℕ) (bs : Bytes) (n : ℕ) (k : Kind) (x : Reading) (feeder : Client) (xs : List Action)
+        → Speaks protocol st i bs n k x feeder → Runs x (feeder .recording) xs
+        → refusesAny (st .sizes .storeRoom) xs (st .store) (feeder .patterns) ≡ false
+        → Change c l (feeds i bs) (storeAfterAll xs (st .store))
         (afterStep protocol (st .sizes .queueRoom) false xs (st .store) c)
         (logAfterStep protocol (st .sizes .queueRoom) false xs (st .store) c l)
 
@@ -57,12 +61,13 @@ module _ (protocol : Protocol) (st : State) where
     abbrev next : Decision → State
     next d = afterEvent protocol (d .event) st
 
-    -- what becomes of the slot j: free after the call, just opened, or a client that was there before
+    -- what becomes of the slot j: it stays free, its client is closed, one is opened, or the client that was there is changed
     pub data SlotChange (x : Call) (d : Decision) : Type 0 where
-      empty : slotAt j (next d) ≡ free → SlotChange x d
-      new : (k : Kind) → slotAt j (next d) ≡ used (newClient k) → logThen x d ≡ newLog → SlotChange x d
+      vacant : slotAt j st ≡ free → slotAt j (next d) ≡ free → SlotChange x d
+      closed-now : (c : Client) → slotAt j st ≡ used c → slotAt j (next d) ≡ free → d .event ≡ closed j → SlotChange x d
+      opened-now : (k : Kind) → slotAt j st ≡ free → slotAt j (next d) ≡ used (newClient k) → logThen x d ≡ newLog → SlotChange x d
       changed : (c e : Client) → slotAt j st ≡ used c → slotAt j (next d) ≡ used e
-          → Change c (f j) (next d .store) e (logThen x d) → SlotChange x d
+          → Change c (f j) x (next d .store) e (logThen x d) → SlotChange x d
 
     -- a slot that is free and is not opened stays free
     from-free : (x : Call) (d : Decision) → slotAt j st ≡ free
@@ -70,8 +75,8 @@ module _ (protocol : Protocol) (st : State) where
     from-free x d w e = go (slot-after protocol (d .event) st j)
       where
         go : SlotAfter protocol (d .event) st j → SlotChange x d
-        go (inside h) = empty (h ∙ (rw w e))
-        go (outside h g) = empty h
+        go (inside h) = vacant w (h ∙ (rw w e))
+        go (outside h g) = vacant g h
 
     given-none : (x : Call) (n : ℕ) (l : Log) → 1 ≤ n → logGiven x (record { answer = n; count = 0; bytes = [] }) j l ≡ l
     unfolding logGiven
@@ -85,7 +90,7 @@ module _ (protocol : Protocol) (st : State) where
     unfolding logAfterEvent slotAfterEvent storeAfterEvent afterEvent
     by-idle x n h free w = from-free x (unaltered n) w refl
     by-idle x n h (used c) w =
-        changed c c w (ap (slotAt j) (after-idle protocol st) ∙ w) (rw (given-none x n (f j) h) kept)
+        changed c c w (ap (slotAt j) (after-idle protocol st) ∙ w) (rw (given-none x n (f j) h) (kept x))
 
     by-opening : (i form : ℕ) (k : Kind) → slotAt i st ≡ free → (s : Slot) → slotAt j st ≡ s
         → SlotChange (opens i form) (done 0 [] (opened i k))
@@ -96,13 +101,13 @@ module _ (protocol : Protocol) (st : State) where
         here b = go (slot-after protocol (opened i k) st j)
           where
             go : SlotAfter protocol (opened i k) st j → SlotChange (opens i form) (done 0 [] (opened i k))
-            go (inside h) = new k (h ∙ rw b) (rw b)
-            go (outside h g) = empty h
+            go (inside h) = opened-now k (rw (eqb-true j i b) v) (h ∙ rw b) (rw b)
+            go (outside h g) = vacant g h
 
         elsewhere : eqb j i ≡ false → (s : Slot) → slotAt j st ≡ s → SlotChange (opens i form) (done 0 [] (opened i k))
         elsewhere b free w = from-free (opens i form) (done 0 [] (opened i k)) w (rw b)
         elsewhere b (used c) w =
-            changed c c w (slot-after-used protocol (opened i k) st j c w ∙ rw b) (rw b kept)
+            changed c c w (slot-after-used protocol (opened i k) st j c w ∙ rw b) (rw b (kept _))
 
     by-closing : (i : ℕ) (s : Slot) → slotAt j st ≡ s → SlotChange (closes i) (done 0 [] (closed i))
     unfolding logGiven logAfterEvent slotAfterEvent storeAfterEvent afterEvent
@@ -110,8 +115,8 @@ module _ (protocol : Protocol) (st : State) where
         from-free (closes i) (done 0 [] (closed i)) w (either (eqb j i) (λ b. rw b) (λ b. rw b))
     by-closing i (used c) w =
         either (eqb j i)
-        (λ b. empty (slot-after-used protocol (closed i) st j c w ∙ rw b))
-        (λ b. changed c c w (slot-after-used protocol (closed i) st j c w ∙ rw b) kept)
+        (λ b. closed-now c w (slot-after-used protocol (closed i) st j c w ∙ rw b) (ap closed (sym (eqb-true j i b))))
+        (λ b. changed c c w (slot-after-used protocol (closed i) st j c w ∙ rw b) (kept _))
 
     -- the one client in a slot
     same-client : (i : ℕ) (c e : Client) → eqb j i ≡ true → slotAt i st ≡ used c → slotAt j st ≡ used e → e ≡ c
@@ -126,8 +131,8 @@ module _ (protocol : Protocol) (st : State) where
         either (eqb j i)
         (λ b. let h : e ≡ c = same-client i c e b v w in
         changed e (afterTake e) w (slot-after-used protocol (took i) st j e w ∙ rw b)
-        (rw (and-true (eqb j i), b) (served m ms (rw h q))))
-        (λ b. changed e e w (slot-after-used protocol (took i) st j e w ∙ rw b) (rw (and-true (eqb j i), b) kept))
+        (rw (and-true (eqb j i), b) (served i len m ms (rw h v) (rw h q))))
+        (λ b. changed e e w (slot-after-used protocol (took i) st j e w ∙ rw b) (rw (and-true (eqb j i), b) (kept _)))
 
     module _ (i : ℕ) (bs : Bytes) (n : ℕ) (k : Kind) (x : Reading) (c : Client) (sp : Speaks protocol st i bs n k x c) where
       by-consuming : (r : Option (List Action)) → Records (st .sizes .recordRoom) x (c .recording) r
@@ -140,7 +145,7 @@ module _ (protocol : Protocol) (st : State) where
           (λ b. let h : e ≡ c = same-client i c e b (sp .at) w in
           changed e (withRecording k r e) w (slot-after-used protocol (consumed i k r) st j e w ∙ rw b)
           (rw h (spoke i bs n k x r sp rec)))
-          (λ b. changed e e w (slot-after-used protocol (consumed i k r) st j e w ∙ rw b) kept)
+          (λ b. changed e e w (slot-after-used protocol (consumed i k r) st j e w ∙ rw b) (kept _))
 
       by-refusing : (r : Refusal) → Refuses protocol st c x r
           → (s : Slot) → slotAt j st ≡ s → SlotChange (feeds i bs) (refusal n i k r)
@@ -152,7 +157,7 @@ module _ (protocol : Protocol) (st : State) where
           changed e (shutBy protocol r (withRecording k none e)) w
           (slot-after-used protocol (refused i k r) st j e w ∙ rw b)
           (rw (b, w, h) (was-refused i bs n k x r sp why)))
-          (λ b. changed e e w (slot-after-used protocol (refused i k r) st j e w ∙ rw b) (rw b kept))
+          (λ b. changed e e w (slot-after-used protocol (refused i k r) st j e w ∙ rw b) (rw b (kept _)))
 
       by-running : (xs : List Action) → Runs x (c .recording) xs
           → refusesAny (st .sizes .storeRoom) xs (st .store) (c .patterns) ≡ false
@@ -168,7 +173,7 @@ module _ (protocol : Protocol) (st : State) where
           (rw (b, w, h) (ran i bs n k x xs sp run ok)))
           (λ b. changed e (afterStep protocol (st .sizes .queueRoom) false xs (st .store) e) w
           (slot-after-used protocol (stepped i k xs) st j e w ∙ rw b)
-          (rw (b, w) (watched xs)))
+          (rw (b, w) (watched i bs n k x c xs sp run ok)))
 
     by-outcome : (x : Call) (d : Decision) → Outcome protocol st x d → SlotChange x d
     by-outcome x d (turned-away _ n p q) = by-idle x n p (slotAt j st) refl

@@ -28,7 +28,7 @@ use Rattle.server.proofs.Limits.{StoreLimits, limits-storeAfterAll, Pat
 use Rattle.server.proofs.Outcomes.{Speaks}
 use Rattle.server.proofs.Outcomes.{Outcome, turned-away, opening, consuming, refusing, running, giving, closing, outcome}
 use Rattle.server.proofs.Changes.{Change, kept, served, spoke, was-refused, ran, watched}
-use Rattle.server.proofs.Changes.{SlotChange, empty, new, changed, slot-change}
+use Rattle.server.proofs.Changes.{SlotChange, vacant, closed-now, opened-now, changed, slot-change}
 use Rattle.server.proofs.ClientInvariants.{ValidReading, runs-valid, records-valid, invariant-newClient, invariant-afterTake}
 use Rattle.server.proofs.ClientInvariants.{invariant-withRecording, invariant-feeder, invariant-shutBy, invariant-afterStep}
 
@@ -64,10 +64,10 @@ module _ (protocol : Protocol) (valid : Bytes → Bool) (law : Lawful protocol v
 
     -- ---- clients
 
-    client-after : (c : Client) (l : Log) → Good c → {s : Store} {d : Client} {m : Log} → Change protocol st c l s d m → Good d
+    client-after : (c : Client) (l : Log) → Good c → {x : Call} {s : Store} {d : Client} {m : Log} → Change protocol st c l x s d m → Good d
     unfolding withRecording
-    client-after c l g kept = g
-    client-after c l g (served m ms q) = invariant-afterTake protocol valid law (st .sizes) c g
+    client-after c l g (kept y) = g
+    client-after c l g (served i len m ms v q) = invariant-afterTake protocol valid law (st .sizes) c g
     client-after c l g (spoke i bs n k x r sp rec) =
         invariant-withRecording protocol valid law (st .sizes) k r c g (sp .is-open) (fixes-at i bs n k x c sp)
         (records-valid protocol valid (st .sizes .recordRoom) x (c .recording) r rec (reading-at i bs n k x c sp) (g .recording-valid))
@@ -82,7 +82,7 @@ module _ (protocol : Protocol) (valid : Bytes → Bool) (law : Lawful protocol v
         (invariant-feeder protocol valid law (st .sizes) k c g (sp .is-open) f)
         (λ p. absurd (f .fixed p))
         (limits-patternsAfterAll valid (st .sizes .storeRoom) xs (st .store) (c .patterns) v (limits-at c g) ok)
-    client-after c l g (watched xs) =
+    client-after c l g (watched i bs n k x feeder xs sp run ok) =
         invariant-afterStep protocol valid law (st .sizes) false xs (st .store) c g
         (λ p. let e : c .patterns ≡ [] = g .stream-empty p .1 in
         (rw e (owesAll-none protocol xs (st .store)), rw e (patternsAfterAll-other xs [])))
@@ -91,8 +91,9 @@ module _ (protocol : Protocol) (valid : Bytes → Bool) (law : Lawful protocol v
     slot-after-call : (x : Call) (j : ℕ) → SlotChange protocol st (λ i. newLog) j x (decide protocol x st)
         → SlotInvariant protocol valid (st .sizes) (slotAt j (serve protocol x st .next))
     unfolding serve
-    slot-after-call x j (empty e) = rw e tt
-    slot-after-call x j (new k e l) = rw e (invariant-newClient protocol valid law (st .sizes) k queue-large)
+    slot-after-call x j (vacant w e) = rw e tt
+    slot-after-call x j (closed-now c w e v) = rw e tt
+    slot-after-call x j (opened-now k w e l) = rw e (invariant-newClient protocol valid law (st .sizes) k queue-large)
     slot-after-call x j (changed c d w e h) = rw e (client-after c newLog (client-at j c w) h)
 
     -- ---- the store

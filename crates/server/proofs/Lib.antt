@@ -14,3 +14,6 @@ pub mod Invariants
 pub mod Always
 pub mod Taken
 pub mod Drain
+pub mod Errors
+pub mod Informing
+pub mod LastInfos

@@ -16,8 +16,8 @@ use Rattle.server.specs.Step.{storeAfter, patternsAfter, refuses, storeA
 use Rattle.server.specs.Step.{subscribed, notices, owes, owesAll}
 use Rattle.server.specs.Turn.{orElse, foundOr, writeOf, lastWrite, valueAtTurn}
 use Rattle.server.specs.Turn.{subscriptionOf, lastSubscription, heldAtTurn}
-use Rattle.server.proofs.Tests.{either}
-use Rattle.server.proofs.Stores.{lookup-storeAfterWrite}
+use Rattle.server.specs.Invariant.{Ascending}
+use Rattle.server.proofs.Stores.{lookup-storeAfterWrite, ascending-storeAfterWrite}
 use Rattle.server.proofs.Subscriptions.{held-addPattern, held-removePattern}
 
 -- ---- commands in two parts
@@ -58,6 +58,22 @@ module _ (protocol : Protocol) where
   owesAll-append mine (a ∷ xs) ys s ps =
       rw (owesAll-append mine xs ys (storeAfter a s) (patternsAfter mine a ps), append-assoc)
 
+-- ---- order
+
+pub ascending-storeAfter : (a : Action) (s : Store) → Ascending s → Ascending (storeAfter a s)
+unfolding storeAfter
+ascending-storeAfter (hello t) s h = h
+ascending-storeAfter (sub p) s h = h
+ascending-storeAfter (unsub p) s h = h
+ascending-storeAfter (read k) s h = h
+ascending-storeAfter (write k v) s h = ascending-storeAfterWrite k v s h
+ascending-storeAfter (ping i) s h = h
+
+pub ascending-storeAfterAll : (xs : List Action) (s : Store) → Ascending s → Ascending (storeAfterAll xs s)
+unfolding storeAfterAll
+ascending-storeAfterAll [] s h = h
+ascending-storeAfterAll (a ∷ xs) s h = ascending-storeAfterAll xs (storeAfter a s) (ascending-storeAfter a s h)
+
 -- ---- clients other than the feeder
 
 -- Another client's patterns stay.
@@ -83,11 +99,11 @@ owesAll-none protocol (a ∷ xs) s = rw (notices-none protocol a s) (owesAll-non
 
 -- ---- what a command finds at its turn
 
-foundOr-orElse : {A : Type 0} (x y : Option A) (a : A) → foundOr (orElse x y) a ≡ foundOr x (foundOr y a)
+pub foundOr-orElse : {A : Type 0} (x y : Option A) (a : A) → foundOr (orElse x y) a ≡ foundOr x (foundOr y a)
 foundOr-orElse (some b) y a = refl
 foundOr-orElse none y a = refl
 
-found-if : {A : Type 0} (b : Bool) (x a : A) → cond b x a ≡ foundOr (cond b (some x) none) a
+pub found-if : {A : Type 0} (b : Bool) (x a : A) → cond b x a ≡ foundOr (cond b (some x) none) a
 found-if true x a = refl
 found-if false x a = refl
 

@@ -12,7 +12,8 @@ use Rattle.server.specs.Invariant.{Each, Distinct}
 use Rattle.server.proofs.Tests.{either, by-test, never}
 use Rattle.server.proofs.Order.{same-refl, same-true, same-sym}
 
-held-append : (p q : Bytes) (ps : Patterns) → held p (ps ++ (q ∷ [])) ≡ cond (held p ps) true (same p q)
+-- One more pattern is held behind the others.
+pub held-append : (p q : Bytes) (ps : Patterns) → held p (ps ++ (q ∷ [])) ≡ cond (held p ps) true (same p q)
 unfolding held
 held-append p q [] = either (same p q) (λ t. rw t) (λ t. rw t)
 held-append p q (r ∷ ps) = either (same p r) (λ t. rw t) (λ t. rw (t, held-append p q ps))

@@ -115,10 +115,10 @@ module _ (protocol : Protocol) where
         go (got-none o f) = absurd (never-shut protocol valid law z false xs s c g calm o f p)
 
     accounted-next : (st : State) → Invariant protocol valid st → (j : ℕ) (c : Client) (l : Log) → slotAt j st ≡ used c
-        → Accounted c l → {s : Store} {d : Client} {m : Log} → Change protocol st c l s d m → Accounted d m
+        → Accounted c l → {x : Call} {s : Store} {d : Client} {m : Log} → Change protocol st c l x s d m → Accounted d m
     unfolding withRecording shutBy
-    accounted-next st inv j c l w a kept = a
-    accounted-next st inv j c l w a (served m ms q) = take-accounted c l m ms q a
+    accounted-next st inv j c l w a (kept y) = a
+    accounted-next st inv j c l w a (served i len m ms v q) = take-accounted c l m ms q a
     accounted-next st inv j c l w a (spoke i bs n k x r sp rec) = fixing k r c l (law .fixes (c .kind) k bs n x (sp .cuts)) a
     accounted-next st inv j c l w a (was-refused i bs n k x r sp why) =
         let f = law .fixes (c .kind) k bs n x (sp .cuts) in
@@ -128,7 +128,7 @@ module _ (protocol : Protocol) where
         let f = law .fixes (c .kind) k bs n x (sp .cuts) in
         step-accounted (st .sizes .queueRoom) true xs (st .store) (withRecording k none c) l
         (λ p. absurd (f .fixed p)) (fixing k none c l f a)
-    accounted-next st inv j c l w a (watched xs) =
+    accounted-next st inv j c l w a (watched i bs n k x feeder xs sp run ok) =
         step-accounted (st .sizes .queueRoom) false xs (st .store) c l
         (quiet (st .sizes) xs (st .store) c (client-at protocol valid law st inv j c w)) a
 

@@ -6,18 +6,19 @@ use Prim.Native.Nat.{ℕ, zero, suc, _+_, _≤_}
 use native.Mathlib.Omega.{arith}
 use lib.Dec.{eqb, leb}
 use lib.ListN.{length}
-use borrow.Author.Tests.{eq-eqb, le-leb}
+use borrow.Author.Tests.{eq-eqb}
 use Rattle.octets.specs.Octets.{Bytes}
 use Rattle.protocol.specs.Terms.{Protocol}
 use Rattle.server.specs.State.{Sizes, inRange, Client, used, State, slotAt}
 use Rattle.server.specs.Queue.{queueCharge, rest, afterTake, encoded}
 use Rattle.server.specs.Events.{took, onClient, slotAfterEvent, afterEvent}
-use Rattle.server.specs.Decision.{Call, takes, unaltered, done}
-use Rattle.server.specs.Calls.{decideTakeFrom, decideTake, decide, serve}
+use Rattle.server.specs.Decision.{Call, takes}
+use Rattle.server.specs.Calls.{serve}
 use Rattle.server.specs.History.{historyOf, drain}
 use Rattle.server.specs.Lawful.{Lawful}
 use Rattle.server.specs.Invariant.{Each}
 use Rattle.server.proofs.Slots.{slot-after-used}
+use Rattle.server.proofs.Decisions.{take-empty, take-first}
 use Rattle.server.proofs.Taken.{queued-is-taken-then-waiting}
 
 -- messages that charge no more than len are each no longer
@@ -27,16 +28,6 @@ short-messages len [] h = tt
 short-messages len (m ∷ q) h = (omega arith, short-messages len q (omega arith))
 
 module _ (protocol : Protocol) where
-  decide-take-empty : (j len : ℕ) (st : State) (c : Client) → slotAt j st ≡ used c → c .queue ≡ []
-      → decide protocol (takes j len) st ≡ unaltered 6
-  unfolding decide decideTake decideTakeFrom
-  decide-take-empty j len st c w e = rw (w, e)
-
-  decide-take-first : (j len : ℕ) (st : State) (c : Client) (m : Bytes) (q : List Bytes) → slotAt j st ≡ used c
-      → c .queue ≡ m ∷ q → length m ≤ len → decide protocol (takes j len) st ≡ done (length m) m (took j)
-  unfolding decide decideTake decideTakeFrom
-  decide-take-first j len st c m q w e h = rw (w, e, le-leb (length m) len h)
-
   after-take : (j : ℕ) (st : State) (c : Client) → slotAt j st ≡ used c
       → slotAt j (afterEvent protocol (took j) st) ≡ used (afterTake c)
   unfolding slotAfterEvent onClient
@@ -51,10 +42,10 @@ module _ (protocol : Protocol) where
       → length q ≤ n → Each (λ m. length m ≤ len) q → drain protocol n j len st ≡ q
   unfolding drain serve
   drain-queue [] zero j len st c w e h r = refl
-  drain-queue [] (suc n) j len st c w e h r = rw (decide-take-empty j len st c w e)
+  drain-queue [] (suc n) j len st c w e h r = rw (take-empty protocol st j len c w e)
   drain-queue (m ∷ q) zero j len st c w e h r = absurd (omega arith)
   drain-queue (m ∷ q) (suc n) j len st c w e h r =
-      rw (decide-take-first j len st c m q w e (r .0))
+      rw (take-first protocol st j len c m q w e (r .0))
       (ap (λ (l : List Bytes). m ∷ l)
       (drain-queue q n j len (afterEvent protocol (took j) st) (afterTake c) (after-take j st c w) (taken-queue c m q e)
       (omega arith) (r .1)))

@@ -17,3 +17,8 @@ pub mod Drain
 pub mod Errors
 pub mod Informing
 pub mod LastInfos
+pub mod Decisions
+pub mod Answers
+pub mod Together
+pub mod NextStates
+pub mod Opened

@@ -22,3 +22,7 @@ pub mod Answers
 pub mod Together
 pub mod NextStates
 pub mod Opened
+pub mod Definitions
+pub mod Tiny
+pub mod Examples
+pub mod Sessions

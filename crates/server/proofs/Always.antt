@@ -1,4 +1,5 @@
--- Induction over a list of calls: what every change keeps of a client and its log holds of every client, also of those since closed.
+-- Induction over a list of calls: what every change keeps of a client and its log holds of every client, also of
+-- those since closed.
 use mathlib.Core.Path.{_≡_, refl, sym, ap, _∙_}
 use mathlib.Core.List.{List, [], _∷_, _++_}
 use Prim.Native.Nat.{ℕ}
@@ -15,7 +16,8 @@ use Rattle.server.specs.History.{Past, History, pastOf, closedBy, histor
 use Rattle.server.specs.Invariant.{Each}
 use Rattle.server.proofs.Slots.{slotAt-empty}
 use Rattle.server.proofs.Subscriptions.{each-append}
-use Rattle.server.proofs.Outcomes.{Outcome, turned-away, opening, consuming, refusing, running, giving, closing, outcome}
+use Rattle.server.proofs.Outcomes.{Outcome, turned-away, opening, consuming, refusing, running, giving}
+use Rattle.server.proofs.Outcomes.{closing, outcome}
 use Rattle.server.proofs.Changes.{Change, SlotChange, vacant, closed-now, opened-now, changed, slot-change}
 
 -- a slot is not free and used at once

@@ -1,4 +1,5 @@
--- Demand 1 for the simple server: which answers there are, and what a call that is turned away, or a message that is refused, leaves.
+-- Demand 1 for the simple server: which answers there are, and what a call that is turned away, or a message that is
+-- refused, leaves.
 use mathlib.Core.Path.{_≡_, refl, sym, ap, _∙_}
 use mathlib.Core.List.{List, [], _∷_, _++_}
 use mathlib.Core.Bool.{Bool, true, false, cond}
@@ -20,7 +21,8 @@ use Rattle.server.specs.Calls.{decide, serve}
 use Rattle.server.proofs.Tests.{either}
 use Rattle.server.proofs.Slots.{SlotAfter, inside, outside, slot-after, slot-after-used, after-idle}
 use Rattle.server.proofs.Outcomes.{Speaks, Refuses}
-use Rattle.server.proofs.Outcomes.{Outcome, turned-away, opening, consuming, refusing, running, giving, closing, outcome}
+use Rattle.server.proofs.Outcomes.{Outcome, turned-away, opening, consuming, refusing, running, giving}
+use Rattle.server.proofs.Outcomes.{closing, outcome}
 
 number-large : (r : Refusal) → 100 ≤ number r
 number-large Unknown = omega arith
@@ -29,8 +31,8 @@ number-large Room = omega arith
 number-large BadState = omega arith
 
 module _ (protocol : Protocol) where
-  -- What a refusal leaves: the client c of the slot i, whose message fixes the kind k, has one ERROR more, is shut and has no patterns and no
-  -- recording; nothing else is touched.
+  -- What a refusal leaves: the client c of the slot i, whose message fixes the kind k, has one ERROR more, is shut
+  -- and has no patterns and no recording; nothing else is touched.
   pub record ShutAlone (i : ℕ) (k : Kind) (r : Refusal) (c : Client) (old new : State) : Type 0 where
     pub store-kept : new .store ≡ old .store
     pub sizes-kept : new .sizes ≡ old .sizes
@@ -117,8 +119,8 @@ module _ (protocol : Protocol) where
     refused-by x d (giving i len c m ms w e h) l = absurd (omega arith)
     refused-by x d (closing i c w) l = absurd (omega arith)
 
-    -- A command refused with 100 to 103 queues one ERROR, shuts that client, drops its patterns and its recording, and touches neither store
-    -- nor other clients.
+    -- A command refused with 100 to 103 queues one ERROR, shuts that client, drops its patterns and its recording,
+    -- and touches neither store nor other clients.
     pub refused-alone : (x : Call) → 100 ≤ serve protocol x st .reply .answer
         → RefusedAlone x (serve protocol x st .reply .answer) (serve protocol x st .next)
     unfolding serve

@@ -24,7 +24,8 @@ use Rattle.server.specs.Log.{Log, newLog, logQueued, logTaken, logAfterS
 use Rattle.server.proofs.Tests.{either, at-equal}
 use Rattle.server.proofs.Slots.{SlotAfter, inside, outside, slot-after, slot-after-used, after-idle}
 use Rattle.server.proofs.Outcomes.{Runs, Records, Speaks, Refuses}
-use Rattle.server.proofs.Outcomes.{Outcome, turned-away, opening, consuming, refusing, running, giving, closing, outcome}
+use Rattle.server.proofs.Outcomes.{Outcome, turned-away, opening, consuming, refusing, running, giving}
+use Rattle.server.proofs.Outcomes.{closing, outcome}
 
 module _ (protocol : Protocol) (st : State) where
   -- what a call makes of the client c and its log l: the store, the client and the log after it
@@ -61,7 +62,8 @@ module _ (protocol : Protocol) (st : State) where
     abbrev next : Decision → State
     next d = afterEvent protocol (d .event) st
 
-    -- what becomes of the slot j: it stays free, its client is closed, one is opened, or the client that was there is changed
+    -- what becomes of the slot j: it stays free, its client is closed, one is opened, or the client that was there is
+    -- changed
     pub data SlotChange (x : Call) (d : Decision) : Type 0 where
       vacant : slotAt j st ≡ free → slotAt j (next d) ≡ free → SlotChange x d
       closed-now : (c : Client) → slotAt j st ≡ used c → slotAt j (next d) ≡ free → d .event ≡ closed j → SlotChange x d

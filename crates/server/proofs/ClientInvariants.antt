@@ -19,13 +19,15 @@ use Rattle.server.specs.Store.{Store}
 use Rattle.server.specs.Patterns.{Patterns}
 use Rattle.server.specs.Step.{patternsAfterAll, owesAll}
 use Rattle.server.specs.State.{Sizes, Client, newClient, recordingCharge, recordingFits}
-use Rattle.server.specs.Queue.{queueCharge, queueFits, rest, afterTake, withRecording, encoded, shutBy, withMessages}
+use Rattle.server.specs.Queue.{queueCharge, queueFits, rest, afterTake, withRecording, encoded, shutBy}
+use Rattle.server.specs.Queue.{withMessages}
 use Rattle.server.specs.Queue.{fitsAll, afterStep, queuedByStep}
 use Rattle.server.specs.Lawful.{Fixes, ValidAction, Lawful}
 use Rattle.server.specs.Invariant.{Each, Distinct, ValidRecording, ClientInvariant}
 use Rattle.server.proofs.Tests.{never, some-not-none}
 use Rattle.server.proofs.Subscriptions.{each-append}
-use Rattle.server.proofs.Queues.{queueCharge-append, encoded-append, owed, Stepped, was-shut, got-all, got-none, stepped}
+use Rattle.server.proofs.Queues.{queueCharge-append, encoded-append, owed, Stepped, was-shut, got-all}
+use Rattle.server.proofs.Queues.{got-none, stepped}
 use Rattle.server.proofs.Limits.{PatternLimits}
 use Rattle.server.proofs.Outcomes.{Runs, at-once, committed}
 use Rattle.server.proofs.Outcomes.{Records, blank-line, begun, nothing-to-commit, recorded}
@@ -169,15 +171,7 @@ module _ (protocol : Protocol) (valid : Bytes → Bool) where
       abbrev pub Calm : Type 0
       Calm = c .kind ≡ Stream → (owesAll protocol mine xs s (c .patterns) ≡ []) × (patternsAfterAll mine xs (c .patterns) ≡ [])
 
-      -- and so is not shut
-      pub never-shut : Calm → c .shut ≡ false → fitsAll protocol (z .queueRoom) (owed protocol (z .queueRoom) mine xs s c) c ≡ false
-          → c .kind ≡ Stream → ⊥
-      unfolding fitsAll queueFits
-      never-shut calm o f p =
-          let q : c .queue ++ encoded protocol (c .kind) (owesAll protocol mine xs s (c .patterns)) ≡ c .queue =
-          rw (calm p .0) (append-nil (c .queue)) in
-          never (sym (le-leb _ _ (g .open-room o)) ∙ (rw q at f))
-
+      -- what an open client is owed fits in its room
       all-owed : Calm → PatternLimits valid (patternsAfterAll mine xs (c .patterns)) → c .shut ≡ false
           → fitsAll protocol (z .queueRoom) (owed protocol (z .queueRoom) mine xs s c) c ≡ true
           → Good (withMessages protocol (owed protocol (z .queueRoom) mine xs s c) (patternsAfterAll mine xs (c .patterns)) c)
@@ -200,6 +194,15 @@ module _ (protocol : Protocol) (valid : Bytes → Bool) where
             shut-empty = λ p. never (sym p ∙ o);
             stream-empty = λ p. (rw (g .stream-empty p .0, calm p .0), calm p .1, g .stream-empty p .2);
           }
+
+      -- and a client that is owed nothing is not shut
+      pub never-shut : Calm → c .shut ≡ false → fitsAll protocol (z .queueRoom) (owed protocol (z .queueRoom) mine xs s c) c ≡ false
+          → c .kind ≡ Stream → ⊥
+      unfolding fitsAll queueFits
+      never-shut calm o f p =
+          let q : c .queue ++ encoded protocol (c .kind) (owesAll protocol mine xs s (c .patterns)) ≡ c .queue =
+          rw (calm p .0) (append-nil (c .queue)) in
+          never (sym (le-leb _ _ (g .open-room o)) ∙ (rw q at f))
 
       pub invariant-afterStep : Calm → PatternLimits valid (patternsAfterAll mine xs (c .patterns))
           → Good (afterStep protocol (z .queueRoom) mine xs s c)

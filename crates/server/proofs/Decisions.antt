@@ -8,7 +8,8 @@ use lib.Dec.{eqb, leb, ltb}
 use lib.ListN.{length}
 use borrow.Author.Tests.{lt-ltb, le-ltb, le-leb, lt-leb}
 use Rattle.octets.specs.Octets.{Bytes}
-use Rattle.protocol.specs.Terms.{Action, begin, commit, plain, Reading, blank, command, invalid, incomplete, whole, Protocol}
+use Rattle.protocol.specs.Terms.{Action, begin, commit, plain, Reading, blank, command, invalid, incomplete, whole}
+use Rattle.protocol.specs.Terms.{Protocol}
 use Rattle.protocol.specs.declared.Kind.{Kind}
 use Rattle.protocol.specs.declared.Refusal.{Refusal}
 use Rattle.protocol.specs.declared.Refusal.the-variants.{Room, State as BadState}
@@ -17,7 +18,8 @@ use Rattle.server.specs.State.{Client, Slot, free, used, State, slotAt, 
 use Rattle.server.specs.Events.{opened, closed, took, consumed, stepped}
 use Rattle.server.specs.Decision.{Call, opens, feeds, takes, closes, unaltered, done, refusal}
 use Rattle.server.specs.Feed.{decideStep, decideCommand, decideReading, decideCut, decideFeed}
-use Rattle.server.specs.Calls.{kindOf, decideOpenAt, decideOpen, decideTakeFrom, decideTake, decideClose, decide}
+use Rattle.server.specs.Calls.{kindOf, decideOpenAt, decideOpen, decideTakeFrom, decideTake, decideClose}
+use Rattle.server.specs.Calls.{decide}
 use Rattle.server.proofs.Outcomes.{Speaks}
 
 module _ (protocol : Protocol) (st : State) where

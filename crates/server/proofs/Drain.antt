@@ -50,8 +50,8 @@ module _ (protocol : Protocol) where
       (drain-queue q n j len (afterEvent protocol (took j) st) (afterTake c) (after-take j st c w) (taken-queue c m q e)
       (omega arith) (r .1)))
 
-  -- Demand 3: what a client's takes gave, then what further takes with room enough would give, is exactly what was queued to it, in order
-  -- and byte for byte.
+  -- Demand 3: what a client's takes gave, then what further takes with room enough would give, is exactly what was
+  -- queued to it, in order and byte for byte.
   pub taken-then-drained : (valid : Bytes → Bool) → Lawful protocol valid → (z : Sizes) → inRange z ≡ true → (xs : List Call)
       → (j : ℕ) (c : Client) → slotAt j (historyOf protocol z xs .state) ≡ used c
       → (n len : ℕ) → length (c .queue) ≤ n → Each (λ m. length m ≤ len) (c .queue)

@@ -1,11 +1,13 @@
--- One ERROR per client, always last: none is queued while the client is open, and a shut client's messages end with it.
+-- One ERROR per client, always last: none is queued while the client is open, and a shut client's messages end with
+-- it.
 use mathlib.Core.Path.{_≡_, refl, sym, ap, _∙_}
 use mathlib.Core.List.{List, [], _∷_, _++_, append-nil}
 use mathlib.Core.Bool.{Bool, true, false, cond, _&&_}
 use mathlib.Core.Option.{none}
 use Prim.Native.Nat.{ℕ}
 use Rattle.octets.specs.Octets.{Bytes}
-use Rattle.protocol.specs.Terms.{Action, hello, sub, unsub, read, write, ping, Message, version, info, pong, error, Protocol}
+use Rattle.protocol.specs.Terms.{Action, hello, sub, unsub, read, write, ping, Message, version, info, pong, error}
+use Rattle.protocol.specs.Terms.{Protocol}
 use Rattle.protocol.specs.declared.Refusal.{Refusal}
 use Rattle.protocol.specs.declared.Refusal.the-variants.{Room}
 use Rattle.server.specs.Store.{Store, changes}

@@ -1,12 +1,13 @@
--- The simple server on small cases, by computation: the slips that document 01 lists (but the first, which is the matcher's), and other
--- cases that are easy to get wrong.
+-- The simple server on small cases, by computation: the slips that document 01 lists (but the first, which is the
+-- matcher's), and other cases that are easy to get wrong.
 use Prim.Native.Nat.{ℕ, zero, suc}
 use mathlib.Core.Path.{_≡_, refl}
 use mathlib.Core.List.{List, [], _∷_, _++_, map}
 use mathlib.Core.Option.{Option, some, none}
 use lib.ListN.{replicate, drop}
 use Rattle.octets.specs.Octets.{Bytes, ascii}
-use Rattle.protocol.specs.Terms.{Action, hello, sub, unsub, read, write, ping, Message, version, info, pong, error, Protocol}
+use Rattle.protocol.specs.Terms.{Action, hello, sub, unsub, read, write, ping, Message, version, info, pong, error}
+use Rattle.protocol.specs.Terms.{Protocol}
 use Rattle.protocol.specs.Terms.{Reading, blank, invalid}
 use Rattle.protocol.specs.declared.Refusal.the-variants.{Unknown, Parameter, Room, State as BadState}
 use Rattle.protocol.specs.declared.Kind.the-variants.{Framed}
@@ -15,9 +16,11 @@ use Rattle.server.specs.Queue.{encoded}
 use Rattle.server.specs.Decision.{Call, opens, feeds, takes, closes, Reply}
 use Rattle.server.specs.Calls.{afterCalls, repliesTo}
 use Rattle.server.proofs.Definitions.{definitions}
-use Rattle.server.proofs.Tiny.{tiny, Line, _says_, _sends_, begins, commits, host, readingOf, callsOf, tiny-definitions}
+use Rattle.server.proofs.Tiny.{tiny, Line, _says_, _sends_, begins, commits, host, readingOf, callsOf}
+use Rattle.server.proofs.Tiny.{tiny-definitions}
 
--- slots 0 and 1 are opened as streams, and then the lines run: the answer to each line, and what then waits in the slots
+-- slots 0 and 1 are opened as streams, and then the lines run: the answer to each line, and what then waits in the
+-- slots
 record Example : Type 0 where
   sizes : Sizes
   lines : List Line
@@ -123,7 +126,8 @@ slips =
       queue-0 = [];
       queue-1 = info A (some []) ∷ info A (some []) ∷ info A none ∷ [];
     }
-    -- of a commit's messages the first would fit and the second not: a slow client gets none and is shut, another gets all
+    -- of a commit's messages the first would fit and the second not: a slow client gets none and is shut, another
+    -- gets all
     ∷ record {
       sizes = large;
       lines =
@@ -153,7 +157,8 @@ slips-avoided = refl
 
 abbrev commit-examples : List Example
 commit-examples =
-    -- READ finds what the recording's last WRITE of the key left, a value or none; before COMMIT nothing recorded counts
+    -- READ finds what the recording's last WRITE of the key left, a value or none; before COMMIT nothing recorded
+    -- counts
     record {
       sizes = small;
       lines =
@@ -316,7 +321,8 @@ answer-examples =
       queue-0 = [];
       queue-1 = [];
     }
-    -- a slot free or N or more is 2; an incomplete message is 1; a shut client is 3, and its messages may still be taken
+    -- a slot free or N or more is 2; an incomplete message is 1; a shut client is 3, and its messages may still be
+    -- taken
     ∷ record {
       sizes = small;
       lines =

@@ -1,4 +1,5 @@
--- One client through one step: for each pattern that it holds, the last INFO since the pattern was added carries each key's present value.
+-- One client through one step: for each pattern that it holds, the last INFO since the pattern was added carries each
+-- key's present value.
 use mathlib.Core.Path.{_≡_, refl, sym, ap, _∙_}
 use mathlib.Core.List.{List, [], _∷_, _++_, append-assoc, append-nil}
 use mathlib.Core.Bool.{Bool, true, false, cond, not, _&&_}
@@ -9,7 +10,8 @@ use lib.ListN.{length, drop, length-append}
 use lib.Seq.{drop-append-le, drop-append-seam}
 use Rattle.octets.specs.Octets.{Bytes}
 use Rattle.octets.specs.Order.{same}
-use Rattle.protocol.specs.Terms.{Action, hello, sub, unsub, read, write, ping, Message, version, info, pong, error, Protocol}
+use Rattle.protocol.specs.Terms.{Action, hello, sub, unsub, read, write, ping, Message, version, info, pong, error}
+use Rattle.protocol.specs.Terms.{Protocol}
 use Rattle.server.specs.Store.{Entry, Store, lookup, storeAfterWrite, changes}
 use Rattle.server.specs.Patterns.{Patterns, held, addPattern, removePattern}
 use Rattle.server.specs.Step.{storeAfter, patternsAfter, storeAfterAll, patternsAfterAll}

@@ -26,11 +26,14 @@ use Rattle.server.proofs.Slots.{length-eachSlot, slotAt-empty}
 use Rattle.server.proofs.Steps.{patternsAfterAll-other, owesAll-none}
 use Rattle.server.proofs.Limits.{StoreLimits, limits-storeAfterAll, PatternLimits, limits-patternsAfterAll}
 use Rattle.server.proofs.Outcomes.{Speaks}
-use Rattle.server.proofs.Outcomes.{Outcome, turned-away, opening, consuming, refusing, running, giving, closing, outcome}
+use Rattle.server.proofs.Outcomes.{Outcome, turned-away, opening, consuming, refusing, running, giving}
+use Rattle.server.proofs.Outcomes.{closing, outcome}
 use Rattle.server.proofs.Changes.{Change, kept, served, spoke, was-refused, ran, watched}
 use Rattle.server.proofs.Changes.{SlotChange, vacant, closed-now, opened-now, changed, slot-change}
-use Rattle.server.proofs.ClientInvariants.{ValidReading, runs-valid, records-valid, invariant-newClient, invariant-afterTake}
-use Rattle.server.proofs.ClientInvariants.{invariant-withRecording, invariant-feeder, invariant-shutBy, invariant-afterStep}
+use Rattle.server.proofs.ClientInvariants.{ValidReading, runs-valid, records-valid, invariant-newClient}
+use Rattle.server.proofs.ClientInvariants.{invariant-afterTake}
+use Rattle.server.proofs.ClientInvariants.{invariant-withRecording, invariant-feeder, invariant-shutBy}
+use Rattle.server.proofs.ClientInvariants.{invariant-afterStep}
 
 module _ (protocol : Protocol) (valid : Bytes → Bool) (law : Lawful protocol valid) where
   module _ (st : State) (inv : Invariant protocol valid st) where

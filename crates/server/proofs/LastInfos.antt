@@ -1,5 +1,5 @@
--- Demand 3's long sentence: for every open client, each pattern that it holds and each key that this matches, the last INFO for the key
--- queued since the pattern was last added carries the key's present value.
+-- Demand 3's long sentence: for every open client, each pattern that it holds and each key that this matches, the
+-- last INFO for the key queued since the pattern was last added carries the key's present value.
 use mathlib.Core.Path.{_≡_, refl, sym, ap, _∙_}
 use mathlib.Core.List.{List, [], _∷_, _++_}
 use mathlib.Core.Bool.{Bool, true, false, cond}
@@ -23,7 +23,8 @@ use Rattle.server.specs.Invariant.{Ascending}
 use Rattle.server.proofs.Tests.{never}
 use Rattle.server.proofs.Steps.{ascending-storeAfterAll}
 use Rattle.server.proofs.Queues.{owed, Stepped, was-shut, got-all, got-none, stepped}
-use Rattle.server.proofs.Outcomes.{Outcome, turned-away, opening, consuming, refusing, running, giving, closing, outcome}
+use Rattle.server.proofs.Outcomes.{Outcome, turned-away, opening, consuming, refusing, running, giving}
+use Rattle.server.proofs.Outcomes.{closing, outcome}
 use Rattle.server.proofs.Changes.{Change, kept, served, spoke, was-refused, ran, watched}
 use Rattle.server.proofs.Always.{Always, Kept, always}
 use Rattle.server.proofs.Informing.{up-to-date, Informed, turns}
@@ -91,8 +92,9 @@ module _ (protocol : Protocol) where
   unfolding emptyServer Ascending
   knowing z xs = always protocol InOrder Knows Nothing knows-kept z xs tt
 
-  -- Demand 3: of the INFO messages for a key queued to an open client from the SUB that last added a pattern which matches the key, within a
-  -- commit from that SUB's own turn on, the last carries the key's present value, or none if it is absent; without any the key is absent.
+  -- Demand 3: of the INFO messages for a key queued to an open client from the SUB that last added a pattern which
+  -- matches the key, within a commit from that SUB's own turn on, the last carries the key's present value, or none
+  -- if it is absent; without any the key is absent.
   pub last-info : (z : Sizes) (xs : List Call) (j : ℕ) (c : Client) → slotAt j (historyOf protocol z xs .state) ≡ used c
       → c .shut ≡ false → (p : Bytes) → held p (c .patterns) ≡ true → (k : Bytes) → protocol .matches p k ≡ true
       → UpToDate (lastInfo k (drop (historyOf protocol z xs .logs j .added p) (historyOf protocol z xs .logs j .queued)))

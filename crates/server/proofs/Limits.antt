@@ -19,7 +19,8 @@ use Rattle.server.specs.Invariant.{Each, Ascending, Distinct, ValidEntry
 use Rattle.server.proofs.Tests.{either, never, or-left, or-right, and-left, and-right}
 use Rattle.server.proofs.Stores.{ascending-storeAfterWrite}
 use Rattle.server.proofs.Charges.{valueCharge, valueCount, Differs, storeAfterWrite-differs}
-use Rattle.server.proofs.Subscriptions.{distinct-addPattern, distinct-removePattern, countOf, length-removePattern}
+use Rattle.server.proofs.Subscriptions.{distinct-addPattern, distinct-removePattern, countOf}
+use Rattle.server.proofs.Subscriptions.{length-removePattern}
 use Rattle.server.proofs.Subscriptions.{each-addPattern, each-removePattern}
 
 each-put : (P : Entry → Type 0) (k v : Bytes) (s : Store) → P (record { key = k; value = v }) → Each P s → Each P (put k v s)

@@ -1,5 +1,5 @@
--- The state after each event, as a change of one slot or slot by slot: the equations by which what the memory holds after a call is compared
--- with the simple server's next state.
+-- The state after each event, as a change of one slot or slot by slot: the equations by which what the memory holds
+-- after a call is compared with the simple server's next state.
 use mathlib.Core.Path.{_≡_, refl, sym, ap, _∙_}
 use mathlib.Core.List.{List, [], _∷_}
 use mathlib.Core.Bool.{Bool, true, false, cond}

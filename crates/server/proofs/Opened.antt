@@ -12,7 +12,8 @@ use borrow.Author.Tests.{eq-eqb}
 use Rattle.protocol.specs.Terms.{Protocol}
 use Rattle.protocol.specs.declared.Kind.{Kind}
 use Rattle.server.specs.Store.{Store}
-use Rattle.server.specs.State.{Sizes, inRange, Slot, free, used, State, emptyServer, setUpAnswer, setUp, slotAt, newClient}
+use Rattle.server.specs.State.{Sizes, inRange, Slot, free, used, State, emptyServer, setUpAnswer, setUp, slotAt}
+use Rattle.server.specs.State.{newClient}
 use Rattle.server.specs.Events.{opened}
 use Rattle.server.specs.Decision.{Call, opens, Decision, done}
 use Rattle.server.specs.Calls.{kindOf, decide, serve}
@@ -20,7 +21,8 @@ use Rattle.server.specs.Log.{Log, newLog, logAfterEvent, logGiven}
 use Rattle.server.specs.History.{History, historyAfter}
 use Rattle.server.proofs.Tests.{either}
 use Rattle.server.proofs.Slots.{slotAt-empty}
-use Rattle.server.proofs.Outcomes.{Outcome, turned-away, opening, consuming, refusing, running, giving, closing, outcome}
+use Rattle.server.proofs.Outcomes.{Outcome, turned-away, opening, consuming, refusing, running, giving}
+use Rattle.server.proofs.Outcomes.{closing, outcome}
 use Rattle.server.proofs.NextStates.{withSlot, after-opened}
 
 -- ---- set up
@@ -72,7 +74,8 @@ module _ (protocol : Protocol) where
         log-new = rw (d, eq-eqb i i refl);
       }
 
-  -- A slot opened anew has nothing of its last client: no patterns, no recording, no message, and nothing of its history.
+  -- A slot opened anew has nothing of its last client: no patterns, no recording, no message, and nothing of its
+  -- history.
   pub opened-new : (t : History) → length (t .state .slots) ≡ t .state .sizes .slotCount → (i form : ℕ)
       → serve protocol (opens i form) (t .state) .reply .answer ≡ 0 → OpenedNew t i form
   unfolding serve

@@ -19,7 +19,8 @@ use Rattle.server.specs.State.{Sizes, Client, Slot, free, used, State, s
 use Rattle.server.specs.Events.{opened, closed, took, consumed, stepped}
 use Rattle.server.specs.Decision.{Call, opens, feeds, takes, closes, Decision, unaltered, done, refusal}
 use Rattle.server.specs.Feed.{decideStep, decideCommand, decideReading, decideCut, decideFeed}
-use Rattle.server.specs.Calls.{kindOf, decideOpenAt, decideOpen, decideTakeFrom, decideTake, decideClose, decide}
+use Rattle.server.specs.Calls.{kindOf, decideOpenAt, decideOpen, decideTakeFrom, decideTake, decideClose}
+use Rattle.server.specs.Calls.{decide}
 use Rattle.server.proofs.Tests.{by-test}
 
 -- the commands that a message makes run, from what was recorded before it

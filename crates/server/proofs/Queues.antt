@@ -15,7 +15,8 @@ use Rattle.protocol.specs.declared.Refusal.the-variants.{Room}
 use Rattle.server.specs.Store.{Store}
 use Rattle.server.specs.Step.{patternsAfterAll, owesAll}
 use Rattle.server.specs.State.{Client}
-use Rattle.server.specs.Queue.{queueCharge, queueFits, encoded, shutBy, withMessages, fitsAll, afterStep, queuedByStep}
+use Rattle.server.specs.Queue.{queueCharge, queueFits, encoded, shutBy, withMessages, fitsAll, afterStep}
+use Rattle.server.specs.Queue.{queuedByStep}
 use Rattle.server.proofs.Tests.{by-test-both}
 use Rattle.server.proofs.Steps.{patternsAfterAll-other}
 

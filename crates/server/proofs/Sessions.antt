@@ -1,5 +1,5 @@
--- A session: each line of an input is fed to a slot, and then all messages are taken, slot 0 first. Document 01's script program runs so.
--- Beside it, examples of set up and of the history.
+-- A session: each line of an input is fed to a slot, and then all messages are taken, slot 0 first. Document 01's
+-- script program runs so. Beside it, examples of set up and of the history.
 use Prim.Native.Nat.{ℕ, zero, suc, _+_}
 use mathlib.Core.Path.{_≡_, refl}
 use mathlib.Core.List.{List, [], _∷_, _++_, map}
@@ -117,8 +117,8 @@ since ls p =
     let t = historyOf (tiny (map readingOf ls)) (sizes 2 256 1024 256) (opens 0 1 ∷ opens 1 1 ∷ callsOf 0 ls) in
     drop (t .logs 0 .added p) (t .logs 0 .queued)
 
--- Slot 0 holds the pattern since the commit's first SUB alone: the three messages before its turn do not count, its own INFO, that of the
--- second SUB, which adds nothing, and what came later do.
+-- Slot 0 holds the pattern since the commit's first SUB alone: the three messages before its turn do not count, its
+-- own INFO, that of the second SUB, which adds nothing, and what came later do.
 since-its-turn : since
     ((0 says sub key) ∷ (0 says write key (some (7 ∷ []))) ∷ begins 0 ∷ (0 says read other)
     ∷ (0 says write key (some (8 ∷ []))) ∷ (0 says unsub key) ∷ (0 says sub key) ∷ (0 says sub key) ∷ commits 0

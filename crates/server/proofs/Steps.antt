@@ -1,4 +1,5 @@
--- The laws of a step: commands in two parts, what they leave of the store and of the patterns, and what a command finds at its turn.
+-- The laws of a step: commands in two parts, what they leave of the store and of the patterns, and what a command
+-- finds at its turn.
 use mathlib.Core.Path.{_≡_, refl, sym, ap, _∙_}
 use mathlib.Core.List.{List, [], _∷_, _++_, append-assoc}
 use mathlib.Core.Bool.{Bool, true, false, cond, not, _&&_, _||_, and-false}
@@ -17,6 +18,7 @@ use Rattle.server.specs.Step.{subscribed, notices, owes, owesAll}
 use Rattle.server.specs.Turn.{orElse, foundOr, writeOf, lastWrite, valueAtTurn}
 use Rattle.server.specs.Turn.{subscriptionOf, lastSubscription, heldAtTurn}
 use Rattle.server.specs.Invariant.{Ascending}
+use Rattle.server.proofs.Tests.{by-test}
 use Rattle.server.proofs.Stores.{lookup-storeAfterWrite, ascending-storeAfterWrite}
 use Rattle.server.proofs.Subscriptions.{held-addPattern, held-removePattern}
 
@@ -45,8 +47,8 @@ pub refusesAny-append : (S : ℕ) (xs ys : List Action) (s : Store) (ps : Patter
 unfolding refusesAny storeAfterAll patternsAfterAll
 refusesAny-append S [] ys s ps = refl
 refusesAny-append S (a ∷ xs) ys s ps =
-    rw (refusesAny-append S xs ys (storeAfter a s) (patternsAfter true a ps))
-    (sym (or-assoc (refuses S a s ps) (refusesAny S xs (storeAfter a s) (patternsAfter true a ps)) _))
+    ap (λ (b : Bool). refuses S a s ps || b) (refusesAny-append S xs ys (storeAfter a s) (patternsAfter true a ps))
+    ∙ sym (or-assoc (refuses S a s ps) (refusesAny S xs (storeAfter a s) (patternsAfter true a ps)) _)
 
 module _ (protocol : Protocol) where
   pub owesAll-append : (mine : Bool) (xs ys : List Action) (s : Store) (ps : Patterns)
@@ -82,6 +84,17 @@ unfolding patternsAfterAll patternsAfter
 patternsAfterAll-other [] ps = refl
 patternsAfterAll-other (a ∷ xs) ps = patternsAfterAll-other xs ps
 
+-- A command sends a client at most one INFO because of its patterns, however many match.
+pub length-notices : (protocol : Protocol) (a : Action) (s : Store) (ps : Patterns) → length (notices protocol a s ps) ≤ 1
+unfolding notices
+length-notices protocol (hello t) s ps = omega arith
+length-notices protocol (sub p) s ps = omega arith
+length-notices protocol (unsub p) s ps = omega arith
+length-notices protocol (read k) s ps = omega arith
+length-notices protocol (write k v) s ps =
+    by-test (λ (ms : List Message). length ms ≤ 1) (changes k v s && subscribed protocol ps k) (λ e. omega arith) (λ e. omega arith)
+length-notices protocol (ping i) s ps = omega arith
+
 notices-none : (protocol : Protocol) (a : Action) (s : Store) → notices protocol a s [] ≡ []
 unfolding notices subscribed
 notices-none protocol (hello t) s = refl
@@ -116,7 +129,8 @@ lookup-storeAfter k (read x) s = refl
 lookup-storeAfter k (write x v) s = lookup-storeAfterWrite k x v s ∙ found-if (same k x) v (lookup k s)
 lookup-storeAfter k (ping i) s = refl
 
--- At its turn a command finds for a key what the last WRITE of it earlier in that recording left, a value or none, else the store's.
+-- At its turn a command finds for a key what the last WRITE of it earlier in that recording left, a value or none,
+-- else the store's.
 pub lookup-storeAfterAll : (k : Bytes) (earlier : List Action) (s : Store)
     → lookup k (storeAfterAll earlier s) ≡ valueAtTurn k earlier s
 unfolding storeAfterAll valueAtTurn lastWrite
@@ -135,7 +149,8 @@ held-patternsAfter p (read k) ps = refl
 held-patternsAfter p (write k v) ps = refl
 held-patternsAfter p (ping i) ps = refl
 
--- At its turn a SUB finds its pattern held by the last SUB or UNSUB of it earlier in that recording, else as it was at the COMMIT.
+-- At its turn a SUB finds its pattern held by the last SUB or UNSUB of it earlier in that recording, else as it was
+-- at the COMMIT.
 pub held-patternsAfterAll : (p : Bytes) (earlier : List Action) (ps : Patterns)
     → held p (patternsAfterAll true earlier ps) ≡ heldAtTurn p earlier ps
 unfolding patternsAfterAll heldAtTurn lastSubscription

@@ -1,5 +1,6 @@
--- Demand 3, byte for byte: what a client's takes gave, then what further takes with room enough would give, is what was queued to it, each
--- message written in the client's kind. Of a client since closed, what was taken is the first part.
+-- Demand 3, byte for byte: what a client's takes gave, then what further takes with room enough would give, is what
+-- was queued to it, each message written in the client's kind. Of a client since closed, what was taken is the first
+-- part.
 use mathlib.Core.Path.{_≡_, refl, sym, ap, _∙_}
 use mathlib.Core.List.{List, [], _∷_, _++_, map, append-assoc, append-nil}
 use mathlib.Core.Bool.{Bool, true, false, cond}
@@ -18,7 +19,8 @@ use Rattle.protocol.specs.declared.Refusal.the-variants.{Room}
 use Rattle.server.specs.Store.{Store}
 use Rattle.server.specs.Step.{owesAll}
 use Rattle.server.specs.State.{Sizes, inRange, Client, Slot, free, used, State, emptyServer, slotAt, newClient}
-use Rattle.server.specs.Queue.{queueCharge, queueFits, rest, afterTake, withRecording, encoded, shutBy, withMessages}
+use Rattle.server.specs.Queue.{queueCharge, queueFits, rest, afterTake, withRecording, encoded, shutBy}
+use Rattle.server.specs.Queue.{withMessages}
 use Rattle.server.specs.Queue.{fitsAll, afterStep, queuedByStep}
 use Rattle.server.specs.Events.{took, onClient, slotAfterEvent, afterEvent}
 use Rattle.server.specs.Decision.{Call, takes, Reply, unaltered, done}
@@ -42,7 +44,8 @@ append-none [] b e = refl
 append-none (x ∷ a) b e = let z : _≡_ {A = ℕ} 0 1 = cc in absurd (omega arith)
 
 module _ (protocol : Protocol) where
-  -- the messages queued to the client are, in its kind, those taken and then those waiting; none is queued before the kind is fixed
+  -- the messages queued to the client are, in its kind, those taken and then those waiting; none is queued before the
+  -- kind is fixed
   pub record Accounted (c : Client) (l : Log) : Type 0 where
     pub queued-bytes : encoded protocol (c .kind) (l .queued) ≡ l .taken ++ c .queue
     pub none-before : c .kind ≡ Stream → l .queued ≡ []
@@ -151,7 +154,8 @@ module _ (protocol : Protocol) where
           always protocol (Invariant protocol valid) Accounts TakenFirst accounts-kept z xs
           (invariant-emptyServer protocol valid law z h)
 
-      -- The messages ever queued to a client, written in its kind, are those that its takes gave and then those waiting.
+      -- The messages ever queued to a client, written in its kind, are those that its takes gave and then those
+      -- waiting.
       pub queued-is-taken-then-waiting : (j : ℕ) (c : Client) → slotAt j (historyOf protocol z xs .state) ≡ used c
           → encoded protocol (c .kind) (historyOf protocol z xs .logs j .queued)
           ≡ historyOf protocol z xs .logs j .taken ++ c .queue

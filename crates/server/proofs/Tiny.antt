@@ -1,5 +1,5 @@
--- A reader, a writer and a matcher of a few lines, for examples by computation, and scripts in which each line is a call. The reader takes
--- one byte, the number of a line of the script, for what that line says.
+-- A reader, a writer and a matcher of a few lines, for examples by computation, and scripts in which each line is a
+-- call. The reader takes one byte, the number of a line of the script, for what that line says.
 use Prim.Native.Nat.{ℕ, zero, suc, _+_, _≤_}
 use mathlib.Core.Path.{_≡_, refl}
 use mathlib.Core.List.{List, [], _∷_, map}
@@ -10,7 +10,8 @@ use native.Mathlib.Omega.{arith}
 use lib.ListN.{length, getD}
 use Rattle.octets.specs.Octets.{Bytes, ascii}
 use Rattle.octets.specs.Order.{same}
-use Rattle.protocol.specs.Terms.{Action, begin, commit, plain, Message, version, info, pong, error, messageId, messagePayload, reason}
+use Rattle.protocol.specs.Terms.{Action, begin, commit, plain, Message, version, info, pong, error, messageId}
+use Rattle.protocol.specs.Terms.{messagePayload, reason}
 use Rattle.protocol.specs.Terms.{Reading, blank, command, invalid, Cut, incomplete, whole, Protocol}
 use Rattle.protocol.specs.declared.Kind.{Kind}
 use Rattle.protocol.specs.declared.Kind.the-variants.{Packets, Stream, Framed, Text}

@@ -1,5 +1,6 @@
--- Demand 3: all that one commit owes a client is queued in its order, with nothing between, exactly when it fits; otherwise none is. So it
--- stays through every later call, also once the client is closed. Nothing else is ever queued but the ERRORs due.
+-- Demand 3: all that one commit owes a client is queued in its order, with nothing between, exactly when it fits;
+-- otherwise none is. So it stays through every later call, also once the client is closed. Nothing else is ever
+-- queued but the ERRORs due.
 use mathlib.Core.Path.{_≡_, refl, sym, ap, _∙_}
 use mathlib.Core.List.{List, [], _∷_, _++_, append-assoc, append-nil}
 use mathlib.Core.Bool.{Bool, true, false, cond}
@@ -77,7 +78,8 @@ module _ (protocol : Protocol) where
           none-of-it = λ f. rw (e, w, b) (ap behind (queuedByStep-none Q false xs (t .state .store) d o (rw b at f)));
         })
 
-    -- A COMMIT answered 0 with a recording queues to each open client all that the recorded commands owe it, or none of it.
+    -- A COMMIT answered 0 with a recording queues to each open client all that the recorded commands owe it, or none
+    -- of it.
     pub commit-together : (c : Client) → Speaks protocol (t .state) i bs n k (command commit) c → c .recording ≡ some xs
         → refusesAny (t .state .sizes .storeRoom) xs (t .state .store) (c .patterns) ≡ false
         → slotAt j (t .state) ≡ used d → d .shut ≡ false → DeliveredTo
@@ -96,7 +98,8 @@ module _ (protocol : Protocol) where
 
   -- ---- nothing else
 
-  -- what a call queues to the client c: nothing, the ERROR of its own refused message, or what a step gives it, its own or another's
+  -- what a call queues to the client c: nothing, the ERROR of its own refused message, or what a step gives it, its
+  -- own or another's
   pub data Queued (st : State) (c : Client) : Call → List Message → Type 0 where
     nothing : (x : Call) → Queued st c x []
     its-error : (i : ℕ) (bs : Bytes) (n : ℕ) (k : Kind) (y : Reading) (r : Refusal) → Speaks protocol st i bs n k y c
@@ -141,8 +144,8 @@ module _ (protocol : Protocol) where
 
   -- ---- for ever
 
-  -- The client of the slot j to which these messages had been queued: it is there still, or since closed, and they come first of all that
-  -- were ever queued to it.
+  -- The client of the slot j to which these messages had been queued: it is there still, or since closed, and they
+  -- come first of all that were ever queued to it.
   pub data Continues (q : List Message) (j : ℕ) (t : History) : Type 0 where
     still : (c : Client) → slotAt j (t .state) ≡ used c → (later : List Message) → t .logs j .queued ≡ q ++ later → Continues q j t
     since : (earlier : List Past) (p : Past) (others : List Past) → t .past ≡ earlier ++ p ∷ others

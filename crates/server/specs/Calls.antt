@@ -1,6 +1,6 @@
--- The calls after set up (document 01, "The numbers a call gives back"): the order of checks, the numbers and bytes given back, and the
--- state after. Set up is in State, and feed's checks are in Feed. Answers 7, and 5 of set up, are about lent memory, which the simple
--- server does not have.
+-- The calls after set up (document 01, "The numbers a call gives back"): the order of checks, the numbers and bytes
+-- given back, and the state after. Set up is in State, and feed's checks are in Feed. Answers 7, and 5 of set up, are
+-- about lent memory, which the simple server does not have.
 use Prim.Native.Nat.{ℕ}
 use mathlib.Core.List.{List, [], _∷_}
 use mathlib.Core.Bool.{cond}

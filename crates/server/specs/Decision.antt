@@ -7,7 +7,8 @@ use Rattle.protocol.specs.declared.Kind.{Kind}
 use Rattle.protocol.specs.declared.Refusal.{Refusal}
 use Rattle.server.specs.Events.{Event, idle, refused}
 
--- the calls after set up: open a slot in a form, feed bytes to a slot, take from a slot into so many bytes, close a slot
+-- the calls after set up: open a slot in a form, feed bytes to a slot, take from a slot into so many bytes, close a
+-- slot
 pub data Call : Type 0 where
   opens : ℕ → ℕ → Call
   feeds : ℕ → Bytes → Call

@@ -12,7 +12,8 @@ use Rattle.server.specs.Step.{storeAfterAll}
 use Rattle.server.specs.State.{Client, Slot, free, used, State, newClient}
 use Rattle.server.specs.Queue.{afterTake, withRecording, shutBy, afterStep}
 
--- What a call does. Each event but `idle` names its slot; of those that come from a message the kind is the client's from then on.
+-- What a call does. Each event but `idle` names its slot; of those that come from a message the kind is the client's
+-- from then on.
 pub data Event : Type 0 where
   -- nothing is altered
   idle : Event

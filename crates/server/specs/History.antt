@@ -1,5 +1,5 @@
--- The history of a list of calls (document 01, "The list"; demand 3): beside the state, the log of each client, those since closed
--- included. The server itself looks at none of it.
+-- The history of a list of calls (document 01, "The list"; demand 3): beside the state, the log of each client, those
+-- since closed included. The server itself looks at none of it.
 use Prim.Native.Nat.{ℕ, zero, suc}
 use mathlib.Core.List.{List, [], _∷_, _++_}
 use mathlib.Core.Bool.{cond}
@@ -59,7 +59,8 @@ module _ (protocol : Protocol) where
   unfoldable pub historyOf : Sizes → List Call → History
   historyOf z xs = historyAfterAll xs (record { state = emptyServer z; logs = λ j. newLog; past = [] })
 
-  -- the bytes that further takes from the slot j give, with room for len bytes: n of them, or fewer where one is not answered 0
+  -- the bytes that further takes from the slot j give, with room for len bytes: n of them, or fewer where one is not
+  -- answered 0
   unfoldable pub drain : ℕ → ℕ → ℕ → State → List Bytes
   drain zero j len st = []
   drain (suc n) j len st =

@@ -1,5 +1,5 @@
--- What is true of every state that a list of calls reaches from a set up answered 0 (document 01, "The simple server", "Queues" and
--- "Shutting"): the limits that the memory has to hold.
+-- What is true of every state that a list of calls reaches from a set up answered 0 (document 01, "The simple
+-- server", "Queues" and "Shutting"): the limits that the memory has to hold.
 use Prim.Native.Nat.{ℕ, _+_, _≤_}
 use mathlib.Core.Path.{_≡_}
 use mathlib.Core.List.{List, [], _∷_}
@@ -12,7 +12,8 @@ use Rattle.protocol.specs.Terms.{Action, Message, Protocol}
 use Rattle.protocol.specs.declared.Kind.the-variants.{Stream}
 use Rattle.server.specs.Store.{Entry, Store, storeFits}
 use Rattle.server.specs.Patterns.{Patterns, held}
-use Rattle.server.specs.State.{Sizes, inRange, Client, Slot, free, used, State, emptyServer, slotAt, recordingFits}
+use Rattle.server.specs.State.{Sizes, inRange, Client, Slot, free, used, State, emptyServer, slotAt}
+use Rattle.server.specs.State.{recordingFits}
 use Rattle.server.specs.Queue.{queueCharge, encoded}
 use Rattle.server.specs.Decision.{Call}
 use Rattle.server.specs.Calls.{afterCalls}

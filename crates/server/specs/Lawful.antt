@@ -1,12 +1,13 @@
--- What the simple server asks of reading and writing, so that its states keep to document 01's limits. The crates that read and write
--- prove it of theirs; `valid` is their syntax check of a pattern.
+-- What the simple server asks of reading and writing, so that its states keep to document 01's limits. The crates
+-- that read and write prove it of theirs; `valid` is their syntax check of a pattern.
 use Prim.Native.Nat.{ℕ, _+_, _≤_}
 use mathlib.Core.Path.{_≡_}
 use mathlib.Core.Bool.{Bool, true, false}
 use mathlib.Core.Logic.{_⊎_}
 use lib.ListN.{length}
 use Rattle.octets.specs.Octets.{Bytes, hasNul}
-use Rattle.protocol.specs.Terms.{Action, hello, sub, unsub, read, write, ping, payload, plain, error, Reading, command, whole, Protocol}
+use Rattle.protocol.specs.Terms.{Action, hello, sub, unsub, read, write, ping, payload, plain, error, Reading}
+use Rattle.protocol.specs.Terms.{command, whole, Protocol}
 use Rattle.protocol.specs.declared.Kind.{Kind}
 use Rattle.protocol.specs.declared.Kind.the-variants.{Stream}
 use Rattle.protocol.specs.declared.Refusal.{Refusal}

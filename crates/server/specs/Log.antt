@@ -1,5 +1,5 @@
--- A client's log (document 01, "The list"; demand 3): all messages ever queued to it, what its takes gave, and where each of its
--- patterns was last added.
+-- A client's log (document 01, "The list"; demand 3): all messages ever queued to it, what its takes gave, and where
+-- each of its patterns was last added.
 use Prim.Native.Nat.{ℕ, _+_}
 use mathlib.Core.List.{List, [], _∷_, _++_}
 use mathlib.Core.Bool.{Bool, true, false, cond, _&&_}
@@ -17,8 +17,8 @@ use Rattle.server.specs.Queue.{withRecording, queuedByStep}
 use Rattle.server.specs.Events.{Event, idle, opened, closed, took, consumed, refused, stepped}
 use Rattle.server.specs.Decision.{Call, opens, feeds, takes, closes, Reply}
 
--- Of one client: the messages ever queued to it, ERROR included; the bytes that each of its takes gave; and for each pattern how many
--- messages had been queued when it was last added.
+-- Of one client: the messages ever queued to it, ERROR included; the bytes that each of its takes gave; and for each
+-- pattern how many messages had been queued when it was last added.
 pub record Log : Type 0 where
   pub queued : List Message
   pub taken : List Bytes
@@ -30,7 +30,8 @@ newLog = record { queued = []; taken = []; added = λ p. 0 }
 
 -- ---- where a pattern was last added
 
--- After one command at its turn, before which n messages had been queued or owed: a SUB of a pattern not held adds it there.
+-- After one command at its turn, before which n messages had been queued or owed: a SUB of a pattern not held adds it
+-- there.
 unfoldable pub addedAfter : Bool → Action → Patterns → ℕ → (Bytes → ℕ) → Bytes → ℕ
 addedAfter false a ps n f = f
 addedAfter true (hello t) ps n f = f
@@ -67,8 +68,8 @@ unfoldable pub onLog : (Client → Log → Log) → Slot → Log → Log
 onLog f free l = l
 onLog f (used c) l = f c l
 
--- The log of slot j after an event that finds this in the slot: a client just opened has a new one, a refusal queues one ERROR, a step
--- queues what it owes.
+-- The log of slot j after an event that finds this in the slot: a client just opened has a new one, a refusal queues
+-- one ERROR, a step queues what it owes.
 unfoldable pub logAfterEvent : Protocol → ℕ → Event → Store → ℕ → Slot → Log → Log
 logAfterEvent protocol Q idle s j x l = l
 logAfterEvent protocol Q (opened i k) s j x l = cond (eqb j i) newLog l

@@ -1,5 +1,5 @@
--- A client's queue (document 01, "Queues" and "Shutting"): what messages charge, what a step queues to a client, and how a client is
--- shut.
+-- A client's queue (document 01, "Queues" and "Shutting"): what messages charge, what a step queues to a client, and
+-- how a client is shut.
 use Prim.Native.Nat.{ℕ, _+_}
 use mathlib.Core.List.{List, [], _∷_, _++_, map}
 use mathlib.Core.Bool.{Bool, true, false, cond}
@@ -76,7 +76,8 @@ module _ (protocol : Protocol) where
   unfoldable pub fitsAll : ℕ → List Message → Client → Bool
   fitsAll Q owed c = queueFits Q (c .queue ++ encoded (c .kind) owed)
 
-  -- a client after a step: a shut one stays as it is; an open one gets all that it is owed if all fits, else none and is shut with 102
+  -- a client after a step: a shut one stays as it is; an open one gets all that it is owed if all fits, else none and
+  -- is shut with 102
   unfoldable pub afterStep : ℕ → Bool → List Action → Store → Client → Client
   afterStep Q mine xs s c =
       cond (c .shut) c

@@ -1,5 +1,5 @@
--- The simple server's state (document 01, "What the broker is" and "The simple server"): the store, and in each slot nothing or a
--- client; and the state that set up leaves. No memory, no offsets.
+-- The simple server's state (document 01, "What the broker is" and "The simple server"): the store, and in each slot
+-- nothing or a client; and the state that set up leaves. No memory, no offsets.
 use Prim.Native.Nat.{ℕ, _+_}
 use mathlib.Core.List.{List, [], _∷_}
 use mathlib.Core.Bool.{Bool, true, false, cond, _&&_}
@@ -19,8 +19,8 @@ pub record Sizes : Type 0 where
   pub queueRoom : ℕ
   pub recordRoom : ℕ
 
--- a client from its open to its close: how it speaks, whether it is shut, its patterns, the commands recorded since its BEGIN if there
--- was one, and the messages not yet taken, as bytes in its kind
+-- a client from its open to its close: how it speaks, whether it is shut, its patterns, the commands recorded since
+-- its BEGIN if there was one, and the messages not yet taken, as bytes in its kind
 pub record Client : Type 0 where
   pub kind : Kind
   pub shut : Bool

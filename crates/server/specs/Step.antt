@@ -1,6 +1,6 @@
--- One step (document 01, "The simple server"): the commands that run, a single one or a commit's, each at its turn. For each command:
--- the store and the patterns after it, whether it is refused, and what it owes each client. A client of whom `mine` is true is the one
--- that the commands come from.
+-- One step (document 01, "The simple server"): the commands that run, a single one or a commit's, each at its turn.
+-- For each command: the store and the patterns after it, whether it is refused, and what it owes each client. A
+-- client of whom `mine` is true is the one that the commands come from.
 use Prim.Native.Nat.{ℕ}
 use mathlib.Core.List.{List, [], _∷_, _++_}
 use mathlib.Core.Bool.{Bool, true, false, cond, not, _&&_, _||_}

@@ -24,35 +24,44 @@ use Rattle.server.proofs.Changes.{Change, SlotChange, vacant, closed-no
 pub free-not-used {ℓ} : {C : Type ℓ} (x : Slot) (c : Client) → x ≡ free → x ≡ used c → C
 free-not-used x c e w = let z : _≡_ {A = ℕ} 0 1 = cc in absurd (omega arith)
 
+-- what may be said of a client with the store and its log, and of a client since closed with its log
+abbrev pub OfClient : Type 1
+OfClient = Store → Client → Log → Type 0
+
+abbrev pub OfPast : Type 1
+OfPast = Client → Log → Type 0
+
 module _ (protocol : Protocol) where
   -- ---- the history leaves the server alone
 
-  pub historyAfterAll-state : (xs : List Call) (t : History) → historyAfterAll protocol xs t .state ≡ afterCalls protocol xs (t .state)
+  pub historyAfterAll-state : (xs : List Call) (t : History)
+      → historyAfterAll protocol xs t .state ≡ afterCalls protocol xs (t .state)
   unfolding historyAfterAll historyAfter afterCalls
   historyAfterAll-state [] t = refl
   historyAfterAll-state (x ∷ xs) t = historyAfterAll-state xs (historyAfter protocol x t)
 
   -- The history never changes what the server does.
-  pub historyOf-state : (z : Sizes) (xs : List Call) → historyOf protocol z xs .state ≡ afterCalls protocol xs (emptyServer z)
+  pub historyOf-state : (z : Sizes) (xs : List Call)
+      → historyOf protocol z xs .state ≡ afterCalls protocol xs (emptyServer z)
   unfolding historyOf
   historyOf-state z xs = historyAfterAll-state xs _
 
   -- ---- the induction
 
   -- P holds of every client in a slot, with the store and its log; R of every client since closed
-  pub record Always (P : Store → Client → Log → Type 0) (R : Client → Log → Type 0) (t : History) : Type 0 where
+  pub record Always (P : OfClient) (R : OfPast) (t : History) : Type 0 where
     pub now : (j : ℕ) (c : Client) → slotAt j (t .state) ≡ used c → P (t .state .store) c (t .logs j)
     pub since-closed : Each (λ p. R (p .client) (p .log)) (t .past)
 
   -- what the calls keep: G of the state, P of a client, and P gives R when the client is closed
-  pub record Kept (G : State → Type 0) (P : Store → Client → Log → Type 0) (R : Client → Log → Type 0) : Type 0 where
+  pub record Preserved (G : State → Type 0) (P : OfClient) (R : OfPast) : Type 0 where
     pub state-next : (st : State) (x : Call) → G st → G (serve protocol x st .next)
     pub client-new : (s : Store) (k : Kind) → P s (newClient k) newLog
     pub client-next : (st : State) → G st → (j : ℕ) (c : Client) (l : Log) → slotAt j st ≡ used c → P (st .store) c l
         → {x : Call} {s : Store} {d : Client} {m : Log} → Change protocol st c l x s d m → P s d m
     pub client-closed : (s : Store) (c : Client) (l : Log) → P s c l → R c l
 
-  module _ (G : State → Type 0) (P : Store → Client → Log → Type 0) (R : Client → Log → Type 0) (keeps : Kept G P R) where
+  module _ (G : State → Type 0) (P : OfClient) (R : OfPast) (keeps : Preserved G P R) where
     abbrev Closed : Past → Type 0
     Closed p = R (p .client) (p .log)
 
@@ -76,7 +85,8 @@ module _ (protocol : Protocol) where
     closed-after t a x d (refusing i bs n k y c r sp why) = tt
     closed-after t a x d (running i bs n k y c xs sp run ok) = tt
     closed-after t a x d (giving i len c m ms w q h) = tt
-    closed-after t a x d (closing i c w) = rw w (keeps .client-closed (t .state .store) c (t .logs i) (a .now i c w), tt)
+    closed-after t a x d (closing i c w) =
+        rw w (keeps .client-closed (t .state .store) c (t .logs i) (a .now i c w), tt)
 
     always-call : (x : Call) (t : History) → G (t .state) → Always P R t → Always P R (historyAfter protocol x t)
     unfolding historyAfter
@@ -88,7 +98,8 @@ module _ (protocol : Protocol) where
               (closed-after t a x (decide protocol x (t .state)) (outcome protocol (t .state) x));
         }
 
-    pub always-calls : (xs : List Call) (t : History) → G (t .state) → Always P R t → Always P R (historyAfterAll protocol xs t)
+    pub always-calls : (xs : List Call) (t : History) → G (t .state) → Always P R t
+        → Always P R (historyAfterAll protocol xs t)
     unfolding historyAfterAll historyAfter
     always-calls [] t g a = a
     always-calls (x ∷ xs) t g a =
@@ -99,4 +110,7 @@ module _ (protocol : Protocol) where
     unfolding historyOf
     always z xs g =
         always-calls xs _ g
-        (record { now = λ j c w. free-not-used (slotAt j (emptyServer z)) c (slotAt-empty z j) w; since-closed = tt })
+        (record {
+          now = λ j c w. free-not-used (slotAt j (emptyServer z)) c (slotAt-empty z j) w;
+          since-closed = tt;
+        })

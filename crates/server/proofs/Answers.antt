@@ -7,6 +7,7 @@ use mathlib.Core.Logic.{_⊎_, inl, inr}
 use mathlib.Core.Option.{Option, some, none}
 use Prim.Native.Nat.{ℕ, _≤_}
 use native.Mathlib.Omega.{arith}
+use lib.ListN.{length}
 use borrow.Author.Tests.{eq-eqb, ne-eqb}
 use Rattle.octets.specs.Octets.{Bytes}
 use Rattle.protocol.specs.Terms.{number, Message, error, Reading, Protocol}
@@ -16,11 +17,11 @@ use Rattle.protocol.specs.declared.Refusal.the-variants.{Unknown, Parameter, Ro
 use Rattle.server.specs.State.{Client, free, used, State, slotAt}
 use Rattle.server.specs.Queue.{withRecording, encoded, shutBy}
 use Rattle.server.specs.Events.{idle, refused, onClient, slotAfterEvent, storeAfterEvent, afterEvent}
-use Rattle.server.specs.Decision.{Call, feeds, Decision, unaltered}
+use Rattle.server.specs.Decision.{Call, feeds, takes, Decision, unaltered}
 use Rattle.server.specs.Calls.{decide, serve}
-use Rattle.server.proofs.Tests.{either}
+use Rattle.server.specs.Lawful.{Lawful}
 use Rattle.server.proofs.Slots.{SlotAfter, inside, outside, slot-after, slot-after-used, after-idle}
-use Rattle.server.proofs.Outcomes.{Speaks, Refuses}
+use Rattle.server.proofs.Outcomes.{Speaks, RefusalCause}
 use Rattle.server.proofs.Outcomes.{Outcome, turned-away, opening, consuming, refusing, running, giving}
 use Rattle.server.proofs.Outcomes.{closing, outcome}
 
@@ -39,8 +40,14 @@ module _ (protocol : Protocol) where
     pub others-kept : (j : ℕ) → (j ≡ i → ⊥) → slotAt j new ≡ slotAt j old
     pub was-open : c .shut ≡ false
     pub before : slotAt i old ≡ used c
-    pub after : slotAt i new ≡ used (record
-        { kind = k; shut = true; patterns = []; recording = none; queue = c .queue ++ (protocol .written k (error r) ∷ []) })
+    pub after : slotAt i new ≡ used (record {
+      kind = k;
+      shut = true;
+      patterns = [];
+      recording = none;
+      queue = c .queue ++
+          (protocol .written k (error r) ∷ []);
+    })
 
   module _ (st : State) where
     -- ---- answers 1 to 8
@@ -56,7 +63,8 @@ module _ (protocol : Protocol) where
     not-altered x d (closing i c w) p q = absurd (omega arith)
 
     -- A call answered 1 to 8 gives no other number and no byte, and leaves the state as it was.
-    pub unaltered-decision : (x : Call) → 1 ≤ serve protocol x st .reply .answer → serve protocol x st .reply .answer ≤ 8
+    pub unaltered-decision : (x : Call) → 1 ≤ serve protocol x st .reply .answer
+        → serve protocol x st .reply .answer ≤ 8
         → decide protocol x st ≡ unaltered (serve protocol x st .reply .answer)
     unfolding serve
     unaltered-decision x p q = not-altered x _ (outcome protocol st x) p q
@@ -143,3 +151,30 @@ module _ (protocol : Protocol) where
         → (serve protocol x st .reply .answer ≤ 8) ⊎ ((r : Refusal) × (serve protocol x st .reply .answer ≡ number r))
     unfolding serve
     answers x = answered x _ (outcome protocol st x)
+
+    -- ---- the numbers beside the answers
+
+    fed-count : (valid : Bytes → Bool) → Lawful protocol valid → (i : ℕ) (bs : Bytes) (d : Decision)
+        → Outcome protocol st (feeds i bs) d → d .reply .count ≤ length bs
+    fed-count valid law i bs d (turned-away _ n p q) = omega arith
+    fed-count valid law i bs d (consuming _ _ n k y c r sp rec) = law .consumes (c .kind) k bs n y (sp .cuts)
+    fed-count valid law i bs d (refusing _ _ n k y c r sp why) = law .consumes (c .kind) k bs n y (sp .cuts)
+    fed-count valid law i bs d (running _ _ n k y c xs sp run ok) = law .consumes (c .kind) k bs n y (sp .cuts)
+
+    -- No more is consumed than was fed.
+    pub feed-count : (valid : Bytes → Bool) → Lawful protocol valid → (i : ℕ) (bs : Bytes)
+        → serve protocol (feeds i bs) st .reply .count ≤ length bs
+    unfolding serve
+    feed-count valid law i bs = fed-count valid law i bs _ (outcome protocol st (feeds i bs))
+
+    taken-count : (i len : ℕ) (d : Decision) → Outcome protocol st (takes i len) d
+        → (d .reply .count ≡ length (d .reply .bytes)) × (d .reply .count ≤ len)
+    taken-count i len d (turned-away _ n p q) = (refl, omega arith)
+    taken-count i len d (giving _ _ c m ms w e h) = (refl, h)
+
+    -- A take gives as many bytes as it says, and no more than the out slice holds.
+    pub take-count : (i len : ℕ)
+        → (serve protocol (takes i len) st .reply .count ≡ length (serve protocol (takes i len) st .reply .bytes))
+        × (serve protocol (takes i len) st .reply .count ≤ len)
+    unfolding serve
+    take-count i len = taken-count i len _ (outcome protocol st (takes i len))

@@ -23,7 +23,7 @@ use Rattle.server.specs.Calls.{decide}
 use Rattle.server.specs.Log.{Log, newLog, logQueued, logTaken, logAfterStep, onLog, logAfterEvent, logGiven}
 use Rattle.server.proofs.Tests.{either, at-equal}
 use Rattle.server.proofs.Slots.{SlotAfter, inside, outside, slot-after, slot-after-used, after-idle}
-use Rattle.server.proofs.Outcomes.{Runs, Records, Speaks, Refuses}
+use Rattle.server.proofs.Outcomes.{Runs, Records, Speaks, RefusalCause}
 use Rattle.server.proofs.Outcomes.{Outcome, turned-away, opening, consuming, refusing, running, giving}
 use Rattle.server.proofs.Outcomes.{closing, outcome}
 
@@ -37,8 +37,9 @@ module _ (protocol : Protocol) (st : State) where
         → Speaks protocol st i bs n k x c → Records (st .sizes .recordRoom) x (c .recording) r
         → Change c l (feeds i bs) (st .store) (withRecording k r c) l
     was-refused : (i : ℕ) (bs : Bytes) (n : ℕ) (k : Kind) (x : Reading) (r : Refusal)
-        → Speaks protocol st i bs n k x c → Refuses protocol st c x r
-        → Change c l (feeds i bs) (st .store) (shutBy protocol r (withRecording k none c)) (logQueued (error r ∷ []) l)
+        → Speaks protocol st i bs n k x c → RefusalCause protocol st c x r
+        → Change c l (feeds i bs) (st .store) (shutBy protocol r (withRecording k none c))
+        (logQueued (error r ∷ []) l)
     ran : (i : ℕ) (bs : Bytes) (n : ℕ) (k : Kind) (x : Reading) (xs : List Action)
         → Speaks protocol st i bs n k x c → Runs x (c .recording) xs
         → refusesAny (st .sizes .storeRoom) xs (st .store) (c .patterns) ≡ false
@@ -66,8 +67,10 @@ module _ (protocol : Protocol) (st : State) where
     -- changed
     pub data SlotChange (x : Call) (d : Decision) : Type 0 where
       vacant : slotAt j st ≡ free → slotAt j (next d) ≡ free → SlotChange x d
-      closed-now : (c : Client) → slotAt j st ≡ used c → slotAt j (next d) ≡ free → d .event ≡ closed j → SlotChange x d
-      opened-now : (k : Kind) → slotAt j st ≡ free → slotAt j (next d) ≡ used (newClient k) → logThen x d ≡ newLog → SlotChange x d
+      closed-now : (c : Client) → slotAt j st ≡ used c → slotAt j (next d) ≡ free → d .event ≡ closed j
+          → SlotChange x d
+      opened-now : (k : Kind) → slotAt j st ≡ free → slotAt j (next d) ≡ used (newClient k) → logThen x d ≡ newLog
+          → SlotChange x d
       changed : (c e : Client) → slotAt j st ≡ used c → slotAt j (next d) ≡ used e
           → Change c (f j) x (next d .store) e (logThen x d) → SlotChange x d
 
@@ -80,7 +83,8 @@ module _ (protocol : Protocol) (st : State) where
         go (inside h) = vacant w (h ∙ (rw w e))
         go (outside h g) = vacant g h
 
-    given-none : (x : Call) (n : ℕ) (l : Log) → 1 ≤ n → logGiven x (record { answer = n; count = 0; bytes = [] }) j l ≡ l
+    given-none : (x : Call) (n : ℕ) (l : Log) → 1 ≤ n
+        → logGiven x (record { answer = n; count = 0; bytes = [] }) j l ≡ l
     unfolding logGiven
     given-none (opens i form) n l h = refl
     given-none (feeds i bs) n l h = refl
@@ -106,7 +110,8 @@ module _ (protocol : Protocol) (st : State) where
             go (inside h) = opened-now k (rw (eqb-true j i b) v) (h ∙ rw b) (rw b)
             go (outside h g) = vacant g h
 
-        elsewhere : eqb j i ≡ false → (s : Slot) → slotAt j st ≡ s → SlotChange (opens i form) (done 0 [] (opened i k))
+        elsewhere : eqb j i ≡ false → (s : Slot) → slotAt j st ≡ s
+            → SlotChange (opens i form) (done 0 [] (opened i k))
         elsewhere b free w = from-free (opens i form) (done 0 [] (opened i k)) w (rw b)
         elsewhere b (used c) w =
             changed c c w (slot-after-used protocol (opened i k) st j c w ∙ rw b) (rw b (kept _))
@@ -136,7 +141,8 @@ module _ (protocol : Protocol) (st : State) where
         (rw (and-true (eqb j i), b) (served i len m ms (rw h v) (rw h q))))
         (λ b. changed e e w (slot-after-used protocol (took i) st j e w ∙ rw b) (rw (and-true (eqb j i), b) (kept _)))
 
-    module _ (i : ℕ) (bs : Bytes) (n : ℕ) (k : Kind) (x : Reading) (c : Client) (sp : Speaks protocol st i bs n k x c) where
+    module _ (i : ℕ) (bs : Bytes) (n : ℕ) (k : Kind) (x : Reading) (c : Client)
+        (sp : Speaks protocol st i bs n k x c) where
       by-consuming : (r : Option (List Action)) → Records (st .sizes .recordRoom) x (c .recording) r
           → (s : Slot) → slotAt j st ≡ s → SlotChange (feeds i bs) (done n [] (consumed i k r))
       unfolding logGiven logAfterEvent slotAfterEvent storeAfterEvent afterEvent onClient
@@ -149,7 +155,7 @@ module _ (protocol : Protocol) (st : State) where
           (rw h (spoke i bs n k x r sp rec)))
           (λ b. changed e e w (slot-after-used protocol (consumed i k r) st j e w ∙ rw b) (kept _))
 
-      by-refusing : (r : Refusal) → Refuses protocol st c x r
+      by-refusing : (r : Refusal) → RefusalCause protocol st c x r
           → (s : Slot) → slotAt j st ≡ s → SlotChange (feeds i bs) (refusal n i k r)
       unfolding logGiven logAfterEvent slotAfterEvent storeAfterEvent afterEvent onClient onLog
       by-refusing r why free w = from-free (feeds i bs) (refusal n i k r) w (either (eqb j i) (λ b. rw b) (λ b. rw b))

@@ -36,7 +36,8 @@ pub record Differs (k : Bytes) (old new : Option Bytes) (s t : Store) : Type 0 w
   pub count : length t + valueCount old ≡ length s + valueCount new
 
 -- an entry in front of both
-differs-cons : (k : Bytes) (old new : Option Bytes) (s t : Store) (e : Entry) → Differs k old new s t → Differs k old new (e ∷ s) (e ∷ t)
+differs-cons : (k : Bytes) (old new : Option Bytes) (s t : Store) (e : Entry) → Differs k old new s t
+    → Differs k old new (e ∷ s) (e ∷ t)
 unfolding storeCharge
 differs-cons k old new s t e d =
     let x = d .charge in let y = d .count in record { charge = omega arith; count = omega arith }

@@ -26,8 +26,8 @@ use Rattle.server.specs.Lawful.{Fixes, ValidAction, Lawful}
 use Rattle.server.specs.Invariant.{Each, Distinct, ValidRecording, ClientInvariant}
 use Rattle.server.proofs.Tests.{never, some-not-none}
 use Rattle.server.proofs.Subscriptions.{each-append}
-use Rattle.server.proofs.Queues.{queueCharge-append, encoded-append, owed, Stepped, was-shut, got-all}
-use Rattle.server.proofs.Queues.{got-none, stepped}
+use Rattle.server.proofs.Queues.{queueCharge-append, encoded-append, owed, StepOutcome, was-shut, got-all}
+use Rattle.server.proofs.Queues.{got-none, step-outcome}
 use Rattle.server.proofs.Limits.{PatternLimits}
 use Rattle.server.proofs.Outcomes.{Runs, at-once, committed}
 use Rattle.server.proofs.Outcomes.{Records, blank-line, begun, nothing-to-commit, recorded}
@@ -61,7 +61,11 @@ module _ (protocol : Protocol) (valid : Bytes → Bool) where
   records-valid R x r new nothing-to-commit h g = g
   records-valid R x r new (recorded a xs t) h g =
       λ ys e. let q : xs ++ (a ∷ []) ≡ ys = cc in
-      rw (← q) (record { fits = t; actions = each-append (ValidAction valid) xs (a ∷ []) (g xs refl .actions) (h a refl, tt) })
+      rw (← q) (record {
+        fits = t;
+        actions = each-append (ValidAction valid) xs (a ∷ []) (g xs refl .actions)
+            (h a refl, tt);
+      })
 
   -- ---- clients
 
@@ -93,7 +97,8 @@ module _ (protocol : Protocol) (valid : Bytes → Bool) where
     unfolding rest
     rest-none q e = rw e
 
-    rest-encoded : (k : Kind) (ms : List Message) → (new : List Message) × (rest (encoded protocol k ms) ≡ encoded protocol k new)
+    rest-encoded : (k : Kind) (ms : List Message)
+        → (new : List Message) × (rest (encoded protocol k ms) ≡ encoded protocol k new)
     unfolding rest
     rest-encoded k [] = ([], refl)
     rest-encoded k (m ∷ ms) = (ms, refl)
@@ -112,7 +117,8 @@ module _ (protocol : Protocol) (valid : Bytes → Bool) where
           open-room = λ o. omega (arith, g .open-room o, rest-charge (c .queue));
           queue-encoded = (r .0, ap rest (g .queue-encoded .1) ∙ r .1);
           shut-empty = g .shut-empty;
-          stream-empty = λ o. (rest-none (c .queue) (g .stream-empty o .0), g .stream-empty o .1, g .stream-empty o .2);
+          stream-empty =
+              λ o. (rest-none (c .queue) (g .stream-empty o .0), g .stream-empty o .1, g .stream-empty o .2);
         }
 
     -- a queue keeps its meaning when a message fixes the kind
@@ -160,7 +166,8 @@ module _ (protocol : Protocol) (valid : Bytes → Bool) where
           open-room = λ p. never p;
           queue-encoded = (
             ms ++ (error r ∷ []),
-            rw (encoded-append protocol (c .kind) ms (error r ∷ [])) (ap (λ (q : List Bytes). q ++ encoded protocol (c .kind) (error r ∷ [])) (g .queue-encoded .1)),
+            rw (encoded-append protocol (c .kind) ms (error r ∷ []))
+                (ap (λ (q : List Bytes). q ++ encoded protocol (c .kind) (error r ∷ [])) (g .queue-encoded .1)),
           );
           shut-empty = λ p. (refl, refl);
           stream-empty = λ p. absurd (n p);
@@ -169,12 +176,15 @@ module _ (protocol : Protocol) (valid : Bytes → Bool) where
     module _ (mine : Bool) (xs : List Action) (s : Store) (c : Client) (g : Good c) where
       -- a client whose kind is not fixed is owed nothing
       abbrev pub Calm : Type 0
-      Calm = c .kind ≡ Stream → (owesAll protocol mine xs s (c .patterns) ≡ []) × (patternsAfterAll mine xs (c .patterns) ≡ [])
+      Calm =
+          c .kind ≡ Stream
+          → (owesAll protocol mine xs s (c .patterns) ≡ []) × (patternsAfterAll mine xs (c .patterns) ≡ [])
 
       -- what an open client is owed fits in its room
       all-owed : Calm → PatternLimits valid (patternsAfterAll mine xs (c .patterns)) → c .shut ≡ false
           → fitsAll protocol (z .queueRoom) (owed protocol (z .queueRoom) mine xs s c) c ≡ true
-          → Good (withMessages protocol (owed protocol (z .queueRoom) mine xs s c) (patternsAfterAll mine xs (c .patterns)) c)
+          → Good (withMessages protocol (owed protocol (z .queueRoom) mine xs s c)
+          (patternsAfterAll mine xs (c .patterns)) c)
       unfolding fitsAll queueFits withMessages
       all-owed calm l o f =
           let new : List Message = owesAll protocol mine xs s (c .patterns) in
@@ -189,14 +199,16 @@ module _ (protocol : Protocol) (valid : Bytes → Bool) where
             open-room = λ p. h;
             queue-encoded = (
               ms ++ new,
-              rw (encoded-append protocol (c .kind) ms new) (ap (λ (q : List Bytes). q ++ encoded protocol (c .kind) new) (g .queue-encoded .1)),
+              rw (encoded-append protocol (c .kind) ms new) (ap
+                  (λ (q : List Bytes). q ++ encoded protocol (c .kind) new) (g .queue-encoded .1)),
             );
             shut-empty = λ p. never (sym p ∙ o);
             stream-empty = λ p. (rw (g .stream-empty p .0, calm p .0), calm p .1, g .stream-empty p .2);
           }
 
       -- and a client that is owed nothing is not shut
-      pub never-shut : Calm → c .shut ≡ false → fitsAll protocol (z .queueRoom) (owed protocol (z .queueRoom) mine xs s c) c ≡ false
+      pub never-shut : Calm → c .shut ≡ false
+          → fitsAll protocol (z .queueRoom) (owed protocol (z .queueRoom) mine xs s c) c ≡ false
           → c .kind ≡ Stream → ⊥
       unfolding fitsAll queueFits
       never-shut calm o f p =
@@ -206,9 +218,9 @@ module _ (protocol : Protocol) (valid : Bytes → Bool) where
 
       pub invariant-afterStep : Calm → PatternLimits valid (patternsAfterAll mine xs (c .patterns))
           → Good (afterStep protocol (z .queueRoom) mine xs s c)
-      invariant-afterStep calm l = go (stepped protocol (z .queueRoom) mine xs s c)
+      invariant-afterStep calm l = go (step-outcome protocol (z .queueRoom) mine xs s c)
         where
-          go : {d : Client} {ms : List Message} → Stepped protocol (z .queueRoom) mine xs s c d ms → Good d
+          go : {d : Client} {ms : List Message} → StepOutcome protocol (z .queueRoom) mine xs s c d ms → Good d
           go (was-shut o) = g
           go (got-all o f) = all-owed calm l o f
           go (got-none o f) = invariant-shutBy Room c g o (never-shut calm o f)

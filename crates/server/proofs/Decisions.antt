@@ -60,67 +60,68 @@ module _ (protocol : Protocol) (st : State) where
   unfolding decide decideFeed decideCut
   feed-incomplete i bs c w o e = rw (w, o, e)
 
-  module _ (i : ℕ) (bs : Bytes) (n : ℕ) (k : Kind) (x : Reading) (c : Client) (sp : Speaks protocol st i bs n k x c) where
-    pub feed-whole : decide protocol (feeds i bs) st ≡ decideReading (st .sizes) (st .store) i n k x c
-    unfolding decide decideFeed decideCut
-    feed-whole = rw (sp .at, sp .is-open, sp .cuts)
+  module _ (i : ℕ) (bs : Bytes) (n : ℕ) (k : Kind) (x : Reading) (c : Client) (sp : Speaks protocol st i bs n k x c)
+    where
+      pub feed-whole : decide protocol (feeds i bs) st ≡ decideReading (st .sizes) (st .store) i n k x c
+      unfolding decide decideFeed decideCut
+      feed-whole = rw (sp .at, sp .is-open, sp .cuts)
 
-    pub feed-blank : x ≡ blank → decide protocol (feeds i bs) st ≡ done n [] (consumed i k (c .recording))
-    unfolding decideReading
-    feed-blank e = feed-whole ∙ rw e
+      pub feed-blank : x ≡ blank → decide protocol (feeds i bs) st ≡ done n [] (consumed i k (c .recording))
+      unfolding decideReading
+      feed-blank e = feed-whole ∙ rw e
 
-    pub feed-invalid : (r : Refusal) → x ≡ invalid r → decide protocol (feeds i bs) st ≡ refusal n i k r
-    unfolding decideReading
-    feed-invalid r e = feed-whole ∙ rw e
+      pub feed-invalid : (r : Refusal) → x ≡ invalid r → decide protocol (feeds i bs) st ≡ refusal n i k r
+      unfolding decideReading
+      feed-invalid r e = feed-whole ∙ rw e
 
-    pub feed-begin : x ≡ command begin → c .recording ≡ none
-        → decide protocol (feeds i bs) st ≡ done n [] (consumed i k (some []))
-    unfolding decideReading decideCommand
-    feed-begin e r = feed-whole ∙ rw (e, r)
+      pub feed-begin : x ≡ command begin → c .recording ≡ none
+          → decide protocol (feeds i bs) st ≡ done n [] (consumed i k (some []))
+      unfolding decideReading decideCommand
+      feed-begin e r = feed-whole ∙ rw (e, r)
 
-    pub feed-begin-again : (xs : List Action) → x ≡ command begin → c .recording ≡ some xs
-        → decide protocol (feeds i bs) st ≡ refusal n i k BadState
-    unfolding decideReading decideCommand
-    feed-begin-again xs e r = feed-whole ∙ rw (e, r)
+      pub feed-begin-again : (xs : List Action) → x ≡ command begin → c .recording ≡ some xs
+          → decide protocol (feeds i bs) st ≡ refusal n i k BadState
+      unfolding decideReading decideCommand
+      feed-begin-again xs e r = feed-whole ∙ rw (e, r)
 
-    pub feed-commit-none : x ≡ command commit → c .recording ≡ none
-        → decide protocol (feeds i bs) st ≡ done n [] (consumed i k none)
-    unfolding decideReading decideCommand
-    feed-commit-none e r = feed-whole ∙ rw (e, r)
+      pub feed-commit-none : x ≡ command commit → c .recording ≡ none
+          → decide protocol (feeds i bs) st ≡ done n [] (consumed i k none)
+      unfolding decideReading decideCommand
+      feed-commit-none e r = feed-whole ∙ rw (e, r)
 
-    pub feed-recorded : (a : Action) (xs : List Action) → x ≡ command (plain a) → c .recording ≡ some xs
-        → recordingFits (st .sizes .recordRoom) (xs ++ (a ∷ [])) ≡ true
-        → decide protocol (feeds i bs) st ≡ done n [] (consumed i k (some (xs ++ (a ∷ []))))
-    unfolding decideReading decideCommand
-    feed-recorded a xs e r f = feed-whole ∙ rw (e, r, f)
+      pub feed-recorded : (a : Action) (xs : List Action) → x ≡ command (plain a) → c .recording ≡ some xs
+          → recordingFits (st .sizes .recordRoom) (xs ++ (a ∷ [])) ≡ true
+          → decide protocol (feeds i bs) st ≡ done n [] (consumed i k (some (xs ++ (a ∷ []))))
+      unfolding decideReading decideCommand
+      feed-recorded a xs e r f = feed-whole ∙ rw (e, r, f)
 
-    pub feed-record-full : (a : Action) (xs : List Action) → x ≡ command (plain a) → c .recording ≡ some xs
-        → recordingFits (st .sizes .recordRoom) (xs ++ (a ∷ [])) ≡ false
-        → decide protocol (feeds i bs) st ≡ refusal n i k Room
-    unfolding decideReading decideCommand
-    feed-record-full a xs e r f = feed-whole ∙ rw (e, r, f)
+      pub feed-record-full : (a : Action) (xs : List Action) → x ≡ command (plain a) → c .recording ≡ some xs
+          → recordingFits (st .sizes .recordRoom) (xs ++ (a ∷ [])) ≡ false
+          → decide protocol (feeds i bs) st ≡ refusal n i k Room
+      unfolding decideReading decideCommand
+      feed-record-full a xs e r f = feed-whole ∙ rw (e, r, f)
 
-    -- a single command is a step of its own
-    pub feed-command : (a : Action) → x ≡ command (plain a) → c .recording ≡ none
-        → decide protocol (feeds i bs) st ≡ decideStep (st .sizes) (st .store) i n k (c .patterns) (a ∷ [])
-    unfolding decideReading decideCommand
-    feed-command a e r = feed-whole ∙ rw (e, r)
+      -- a single command is a step of its own
+      pub feed-command : (a : Action) → x ≡ command (plain a) → c .recording ≡ none
+          → decide protocol (feeds i bs) st ≡ decideStep (st .sizes) (st .store) i n k (c .patterns) (a ∷ [])
+      unfolding decideReading decideCommand
+      feed-command a e r = feed-whole ∙ rw (e, r)
 
-    -- a commit is one step of the recorded commands
-    pub feed-commit : (xs : List Action) → x ≡ command commit → c .recording ≡ some xs
-        → decide protocol (feeds i bs) st ≡ decideStep (st .sizes) (st .store) i n k (c .patterns) xs
-    unfolding decideReading decideCommand
-    feed-commit xs e r = feed-whole ∙ rw (e, r)
+      -- a commit is one step of the recorded commands
+      pub feed-commit : (xs : List Action) → x ≡ command commit → c .recording ≡ some xs
+          → decide protocol (feeds i bs) st ≡ decideStep (st .sizes) (st .store) i n k (c .patterns) xs
+      unfolding decideReading decideCommand
+      feed-commit xs e r = feed-whole ∙ rw (e, r)
 
-    pub step-done : (xs : List Action) → refusesAny (st .sizes .storeRoom) xs (st .store) (c .patterns) ≡ false
-        → decideStep (st .sizes) (st .store) i n k (c .patterns) xs ≡ done n [] (stepped i k xs)
-    unfolding decideStep
-    step-done xs f = rw f
+      pub step-done : (xs : List Action) → refusesAny (st .sizes .storeRoom) xs (st .store) (c .patterns) ≡ false
+          → decideStep (st .sizes) (st .store) i n k (c .patterns) xs ≡ done n [] (stepped i k xs)
+      unfolding decideStep
+      step-done xs f = rw f
 
-    pub step-refused : (xs : List Action) → refusesAny (st .sizes .storeRoom) xs (st .store) (c .patterns) ≡ true
-        → decideStep (st .sizes) (st .store) i n k (c .patterns) xs ≡ refusal n i k Room
-    unfolding decideStep
-    step-refused xs f = rw f
+      pub step-refused : (xs : List Action) → refusesAny (st .sizes .storeRoom) xs (st .store) (c .patterns) ≡ true
+          → decideStep (st .sizes) (st .store) i n k (c .patterns) xs ≡ refusal n i k Room
+      unfolding decideStep
+      step-refused xs f = rw f
 
   -- ---- take
 

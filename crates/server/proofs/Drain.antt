@@ -47,12 +47,14 @@ module _ (protocol : Protocol) where
   drain-queue (m ∷ q) (suc n) j len st c w e h r =
       rw (take-first protocol st j len c m q w e (r .0))
       (ap (λ (l : List Bytes). m ∷ l)
-      (drain-queue q n j len (afterEvent protocol (took j) st) (afterTake c) (after-take j st c w) (taken-queue c m q e)
+      (drain-queue q n j len (afterEvent protocol (took j) st) (afterTake c) (after-take j st c w)
+      (taken-queue c m q e)
       (omega arith) (r .1)))
 
   -- Demand 3: what a client's takes gave, then what further takes with room enough would give, is exactly what was
   -- queued to it, in order and byte for byte.
-  pub taken-then-drained : (valid : Bytes → Bool) → Lawful protocol valid → (z : Sizes) → inRange z ≡ true → (xs : List Call)
+  pub taken-then-drained : (valid : Bytes → Bool) → Lawful protocol valid → (z : Sizes) → inRange z ≡ true
+      → (xs : List Call)
       → (j : ℕ) (c : Client) → slotAt j (historyOf protocol z xs .state) ≡ used c
       → (n len : ℕ) → length (c .queue) ≤ n → Each (λ m. length m ≤ len) (c .queue)
       → historyOf protocol z xs .logs j .taken ++ drain protocol n j len (historyOf protocol z xs .state)

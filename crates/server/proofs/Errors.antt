@@ -21,9 +21,9 @@ use Rattle.server.specs.History.{Past, historyOf}
 use Rattle.server.specs.Invariant.{Each}
 use Rattle.server.proofs.Tests.{by-test, never}
 use Rattle.server.proofs.Subscriptions.{each-append}
-use Rattle.server.proofs.Queues.{Stepped, was-shut, got-all, got-none, stepped}
+use Rattle.server.proofs.Queues.{StepOutcome, was-shut, got-all, got-none, step-outcome}
 use Rattle.server.proofs.Changes.{Change, kept, served, spoke, was-refused, ran, watched}
-use Rattle.server.proofs.Always.{Always, Kept, always}
+use Rattle.server.proofs.Always.{Always, Preserved, always}
 
 -- a message that is no ERROR
 abbrev pub NotError : Message → Type 0
@@ -68,7 +68,8 @@ module _ (protocol : Protocol) where
   no-error-owes false a s ps = no-error-notices a s ps
 
   -- A step owes no ERROR.
-  pub no-error-owesAll : (mine : Bool) (xs : List Action) (s : Store) (ps : Patterns) → NoError (owesAll protocol mine xs s ps)
+  pub no-error-owesAll : (mine : Bool) (xs : List Action) (s : Store) (ps : Patterns)
+      → NoError (owesAll protocol mine xs s ps)
   unfolding owesAll
   no-error-owesAll mine [] s ps = tt
   no-error-owesAll mine (a ∷ xs) s ps =
@@ -99,15 +100,21 @@ module _ (protocol : Protocol) where
   step-error : (Q : ℕ) (mine : Bool) (xs : List Action) (s : Store) (c : Client) (l : Log) → OneError c l
       → OneError (afterStep protocol Q mine xs s c) (logAfterStep protocol Q mine xs s c l)
   unfolding logAfterStep withMessages shutBy
-  step-error Q mine xs s c l h = go (stepped protocol Q mine xs s c)
+  step-error Q mine xs s c l h = go (step-outcome protocol Q mine xs s c)
     where
-      go : {d : Client} {ms : List Message} → Stepped protocol Q mine xs s c d ms
-          → OneError d (record { queued = l .queued ++ ms; taken = l .taken; added = logAfterStep protocol Q mine xs s c l .added })
+      go : {d : Client} {ms : List Message} → StepOutcome protocol Q mine xs s c d ms
+          → OneError d (record {
+            queued = l .queued ++ ms;
+            taken = l .taken;
+            added = logAfterStep protocol Q mine xs
+                s c l .added;
+          })
       go (was-shut o) =
           rw append-nil (record { while-open = λ p. h .while-open p; once-shut = λ p. h .once-shut p })
       go (got-all o f) =
           record {
-            while-open = λ p. each-append NotError (l .queued) _ (h .while-open o) (no-error-owesAll mine xs s (c .patterns));
+            while-open =
+                λ p. each-append NotError (l .queued) _ (h .while-open o) (no-error-owesAll mine xs s (c .patterns));
             once-shut = λ p. never (sym p ∙ o);
           }
       go (got-none o f) = shut-now (shutBy protocol Room c) Room l _ refl (h .while-open o)
@@ -123,7 +130,8 @@ module _ (protocol : Protocol) where
   error-next st j c l h (ran i bs n k x xs sp run ok) =
       step-error (st .sizes .queueRoom) true xs (st .store) (withRecording k none c) l
       (record { while-open = h .while-open; once-shut = h .once-shut })
-  error-next st j c l h (watched i bs n k x feeder xs sp run ok) = step-error (st .sizes .queueRoom) false xs (st .store) c l h
+  error-next st j c l h (watched i bs n k x feeder xs sp run ok) =
+      step-error (st .sizes .queueRoom) false xs (st .store) c l h
 
   abbrev Errors : Store → Client → Log → Type 0
   Errors s c l = OneError c l
@@ -131,7 +139,7 @@ module _ (protocol : Protocol) where
   abbrev AnyState : State → Type 0
   AnyState st = Unit {0}
 
-  errors-kept : Kept protocol AnyState Errors OneError
+  errors-kept : Preserved protocol AnyState Errors OneError
   unfolding newClient
   errors-kept =
       record {

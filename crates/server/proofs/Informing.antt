@@ -100,7 +100,8 @@ module _ (protocol : Protocol) where
       rw mx)
       (λ t. rw t))))
 
-  subscribed-held : (p k : Bytes) (ps : Patterns) → held p ps ≡ true → protocol .matches p k ≡ true → subscribed protocol ps k ≡ true
+  subscribed-held : (p k : Bytes) (ps : Patterns) → held p ps ≡ true → protocol .matches p k ≡ true
+      → subscribed protocol ps k ≡ true
   unfolding held subscribed
   subscribed-held p k [] h m = h
   subscribed-held p k (q ∷ ps) h m =
@@ -109,7 +110,8 @@ module _ (protocol : Protocol) where
       (λ t. either (protocol .matches q k) (λ mq. rw mq) (λ mq. rw mq (subscribed-held p k ps (rw t at h) m)))
 
   -- what a WRITE sends of a key to a client that watches it
-  known-notices : (k x : Bytes) (v : Option Bytes) (s : Store) (ps : Patterns) (p : Bytes) → held p ps ≡ true → protocol .matches p k ≡ true
+  known-notices : (k x : Bytes) (v : Option Bytes) (s : Store) (ps : Patterns) (p : Bytes) → held p ps ≡ true
+      → protocol .matches p k ≡ true
       → known (lookup k s) k (notices protocol (write x v) s ps) ≡ lookup k (storeAfterWrite x v s)
   unfolding notices known
   known-notices k x v s ps p h m =
@@ -124,7 +126,8 @@ module _ (protocol : Protocol) where
   -- A client that holds these patterns and was queued these messages, each pattern added after as many as `f` says.
   pub record Informed (s : Store) (ps : Patterns) (ms : List Message) (f : Bytes → ℕ) : Type 0 where
     pub within : (p : Bytes) → held p ps ≡ true → f p ≤ length ms
-    pub last : (p k : Bytes) → held p ps ≡ true → protocol .matches p k ≡ true → known none k (drop (f p) ms) ≡ lookup k s
+    pub last : (p k : Bytes) → held p ps ≡ true → protocol .matches p k ≡ true
+        → known none k (drop (f p) ms) ≡ lookup k s
 
   module _ (s : Store) (ps : Patterns) (ms : List Message) (f : Bytes → ℕ) (i : Informed s ps ms f) where
     on : (new : List Message) (p k : Bytes) → held p ps ≡ true → protocol .matches p k ≡ true
@@ -161,7 +164,8 @@ module _ (protocol : Protocol) where
           last = λ p k h m. either (same p q)
               (λ t. let e : p ≡ q = same-true p q t in
               let mq : protocol .matches q k ≡ true = rw e at m in
-              rw (t, drop-append-seam ms (infos protocol q s), known-infos none k q s a, mq) (orElse-none (lookup k s)))
+              rw (t, drop-append-seam ms (infos protocol q s), known-infos none k q s a, mq)
+              (orElse-none (lookup k s)))
               (λ t. rw t (on (infos protocol q s) p k (held-earlier p q ps t h) m ∙ infos-keep a q k));
         }
 
@@ -171,11 +175,13 @@ module _ (protocol : Protocol) where
     turn-notices (sub q) = keep s [] (λ p k h m. refl)
     turn-notices (unsub q) = keep s [] (λ p k h m. refl)
     turn-notices (read x) = keep s [] (λ p k h m. refl)
-    turn-notices (write x v) = keep (storeAfterWrite x v s) (notices protocol (write x v) s ps) (λ p k h m. known-notices k x v s ps p h m)
+    turn-notices (write x v) =
+        keep (storeAfterWrite x v s) (notices protocol (write x v) s ps) (λ p k h m. known-notices k x v s ps p h m)
     turn-notices (ping x) = keep s [] (λ p k h m. refl)
 
     turn-sub : Ascending s → (q : Bytes)
-        → Informed s (addPattern q ps) (ms ++ infos protocol q s) (cond (held q ps) f (λ p. cond (same p q) (length ms) (f p)))
+        → Informed s (addPattern q ps) (ms ++ infos protocol q s)
+        (cond (held q ps) f (λ p. cond (same p q) (length ms) (f p)))
     unfolding addPattern
     turn-sub a q =
         either (held q ps)
@@ -193,7 +199,8 @@ module _ (protocol : Protocol) where
 
     -- One command at its turn.
     pub turn : Ascending s → (mine : Bool) (a : Action)
-        → Informed (storeAfter a s) (patternsAfter mine a ps) (ms ++ owes protocol mine a s ps) (addedAfter mine a ps (length ms) f)
+        → Informed (storeAfter a s) (patternsAfter mine a ps) (ms ++ owes protocol mine a s ps)
+        (addedAfter mine a ps (length ms) f)
     unfolding storeAfter patternsAfter owes replies notices addedAfter known
     turn a false x = turn-notices x
     turn a true (hello t) = keep s (version ∷ []) (λ p k h m. refl)
@@ -207,11 +214,14 @@ module _ (protocol : Protocol) where
     turn a true (ping x) = keep s (pong x ∷ []) (λ p k h m. refl)
 
   -- All commands of a step, each at its turn.
-  pub turns : (mine : Bool) (xs : List Action) (s : Store) (ps : Patterns) (ms : List Message) (f : Bytes → ℕ) → Ascending s → Informed s ps ms f
-      → Informed (storeAfterAll xs s) (patternsAfterAll mine xs ps) (ms ++ owesAll protocol mine xs s ps) (addedAfterAll protocol mine xs s ps (length ms) f)
+  pub turns : (mine : Bool) (xs : List Action) (s : Store) (ps : Patterns) (ms : List Message) (f : Bytes → ℕ)
+      → Ascending s → Informed s ps ms f
+      → Informed (storeAfterAll xs s) (patternsAfterAll mine xs ps) (ms ++ owesAll protocol mine xs s ps)
+      (addedAfterAll protocol mine xs s ps (length ms) f)
   unfolding storeAfterAll patternsAfterAll owesAll addedAfterAll
   turns mine [] s ps ms f a i = rw append-nil i
   turns mine (x ∷ xs) s ps ms f a i =
-      let r = turns mine xs (storeAfter x s) (patternsAfter mine x ps) (ms ++ owes protocol mine x s ps) (addedAfter mine x ps (length ms) f)
+      let r = turns mine xs (storeAfter x s) (patternsAfter mine x ps) (ms ++ owes protocol mine x s ps)
+      (addedAfter mine x ps (length ms) f)
       (ascending-storeAfter x s a) (turn s ps ms f i a mine x) in
       rw (append-assoc, length-append) at r

@@ -67,20 +67,23 @@ module _ (protocol : Protocol) (valid : Bytes → Bool) (law : Lawful protocol v
 
     -- ---- clients
 
-    client-after : (c : Client) (l : Log) → Good c → {x : Call} {s : Store} {d : Client} {m : Log} → Change protocol st c l x s d m → Good d
+    client-after : (c : Client) (l : Log) → Good c → {x : Call} {s : Store} {d : Client} {m : Log}
+        → Change protocol st c l x s d m → Good d
     unfolding withRecording
     client-after c l g (kept y) = g
     client-after c l g (served i len m ms v q) = invariant-afterTake protocol valid law (st .sizes) c g
     client-after c l g (spoke i bs n k x r sp rec) =
         invariant-withRecording protocol valid law (st .sizes) k r c g (sp .is-open) (fixes-at i bs n k x c sp)
-        (records-valid protocol valid (st .sizes .recordRoom) x (c .recording) r rec (reading-at i bs n k x c sp) (g .recording-valid))
+        (records-valid protocol valid (st .sizes .recordRoom) x (c .recording) r rec (reading-at i bs n k x c sp)
+        (g .recording-valid))
     client-after c l g (was-refused i bs n k x r sp why) =
         let f = fixes-at i bs n k x c sp in
         invariant-shutBy protocol valid law (st .sizes) r (withRecording k none c)
         (invariant-feeder protocol valid law (st .sizes) k c g (sp .is-open) f) (sp .is-open) (f .fixed)
     client-after c l g (ran i bs n k x xs sp run ok) =
         let f = fixes-at i bs n k x c sp in
-        let v = runs-valid protocol valid (st .sizes .recordRoom) x (c .recording) xs run (reading-at i bs n k x c sp) (g .recording-valid) in
+        let v = runs-valid protocol valid (st .sizes .recordRoom) x (c .recording) xs run
+        (reading-at i bs n k x c sp) (g .recording-valid) in
         invariant-afterStep protocol valid law (st .sizes) true xs (st .store) (withRecording k none c)
         (invariant-feeder protocol valid law (st .sizes) k c g (sp .is-open) f)
         (λ p. absurd (f .fixed p))
@@ -113,7 +116,8 @@ module _ (protocol : Protocol) (valid : Bytes → Bool) (law : Lawful protocol v
     store-after x d (refusing i bs n k y c r sp why) = limits-now
     store-after x d (running i bs n k y c xs sp run ok) =
         let g = client-at i c (sp .at) in
-        let v = runs-valid protocol valid (st .sizes .recordRoom) y (c .recording) xs run (reading-at i bs n k y c sp) (g .recording-valid) in
+        let v = runs-valid protocol valid (st .sizes .recordRoom) y (c .recording) xs run
+        (reading-at i bs n k y c sp) (g .recording-valid) in
         limits-storeAfterAll valid (st .sizes .storeRoom) xs (st .store) (c .patterns) v limits-now ok
     store-after x d (giving i len c m ms w q h) = limits-now
     store-after x d (closing i c w) = limits-now
@@ -137,7 +141,8 @@ module _ (protocol : Protocol) (valid : Bytes → Bool) (law : Lawful protocol v
       → Invariant protocol valid (afterCalls protocol xs st)
   unfolding afterCalls
   invariant-afterCalls [] st inv = inv
-  invariant-afterCalls (x ∷ xs) st inv = invariant-afterCalls xs (serve protocol x st .next) (invariant-serve st inv x)
+  invariant-afterCalls (x ∷ xs) st inv =
+      invariant-afterCalls xs (serve protocol x st .next) (invariant-serve st inv x)
 
   pub invariant-emptyServer : (z : Sizes) → inRange z ≡ true → Invariant protocol valid (emptyServer z)
   unfolding emptyServer Ascending storeFits storeCharge
@@ -154,4 +159,5 @@ module _ (protocol : Protocol) (valid : Bytes → Bool) (law : Lawful protocol v
   -- Every state that a list of calls reaches from a set up answered 0 keeps to the limits.
   pub invariant-reachable : (st : State) → Reachable protocol st → Invariant protocol valid st
   invariant-reachable st r =
-      rw (r .reaches) at (invariant-afterCalls (r .calls) (emptyServer (r .sizes-used)) (invariant-emptyServer (r .sizes-used) (r .in-range)))
+      rw (r .reaches) at (invariant-afterCalls (r .calls) (emptyServer (r .sizes-used))
+      (invariant-emptyServer (r .sizes-used) (r .in-range)))

@@ -22,11 +22,11 @@ use Rattle.server.specs.LastInfo.{lastInfo, UpToDate}
 use Rattle.server.specs.Invariant.{Ascending}
 use Rattle.server.proofs.Tests.{never}
 use Rattle.server.proofs.Steps.{ascending-storeAfterAll}
-use Rattle.server.proofs.Queues.{owed, Stepped, was-shut, got-all, got-none, stepped}
+use Rattle.server.proofs.Queues.{owed, StepOutcome, was-shut, got-all, got-none, step-outcome}
 use Rattle.server.proofs.Outcomes.{Outcome, turned-away, opening, consuming, refusing, running, giving}
 use Rattle.server.proofs.Outcomes.{closing, outcome}
 use Rattle.server.proofs.Changes.{Change, kept, served, spoke, was-refused, ran, watched}
-use Rattle.server.proofs.Always.{Always, Kept, always}
+use Rattle.server.proofs.Always.{Always, Preserved, always}
 use Rattle.server.proofs.Informing.{up-to-date, Informed, turns}
 
 module _ (protocol : Protocol) where
@@ -37,11 +37,15 @@ module _ (protocol : Protocol) where
   step-knows : (Q : ℕ) (mine : Bool) (xs : List Action) (s : Store) (c : Client) (l : Log) → Ascending s → Knows s c l
       → Knows (storeAfterAll xs s) (afterStep protocol Q mine xs s c) (logAfterStep protocol Q mine xs s c l)
   unfolding logAfterStep withMessages shutBy
-  step-knows Q mine xs s c l a h = go (stepped protocol Q mine xs s c)
+  step-knows Q mine xs s c l a h = go (step-outcome protocol Q mine xs s c)
     where
-      go : {d : Client} {ms : List Message} → Stepped protocol Q mine xs s c d ms
+      go : {d : Client} {ms : List Message} → StepOutcome protocol Q mine xs s c d ms
           → Knows (storeAfterAll xs s) d
-          (record { queued = l .queued ++ ms; taken = l .taken; added = logAfterStep protocol Q mine xs s c l .added })
+          (record {
+            queued = l .queued ++ ms;
+            taken = l .taken;
+            added = logAfterStep protocol Q mine xs s c l .added;
+          })
       go (was-shut o) p = never (sym o ∙ p)
       go (got-all o f) p = turns protocol mine xs s (c .patterns) (l .queued) (l .added) a (h o)
       go (got-none o f) p = never p
@@ -55,7 +59,8 @@ module _ (protocol : Protocol) where
   knows-next st a c l h (was-refused i bs n k x r sp why) = λ p. never p
   knows-next st a c l h (ran i bs n k x xs sp run ok) =
       step-knows (st .sizes .queueRoom) true xs (st .store) (withRecording k none c) l a h
-  knows-next st a c l h (watched i bs n k x feeder xs sp run ok) = step-knows (st .sizes .queueRoom) false xs (st .store) c l a h
+  knows-next st a c l h (watched i bs n k x feeder xs sp run ok) =
+      step-knows (st .sizes .queueRoom) false xs (st .store) c l a h
 
   abbrev InOrder : State → Type 0
   InOrder st = Ascending (st .store)
@@ -78,7 +83,7 @@ module _ (protocol : Protocol) where
   abbrev Nothing : Client → Log → Type 0
   Nothing c l = Unit {0}
 
-  knows-kept : Kept protocol InOrder Knows Nothing
+  knows-kept : Preserved protocol InOrder Knows Nothing
   unfolding newClient held
   knows-kept =
       record {
@@ -95,8 +100,10 @@ module _ (protocol : Protocol) where
   -- Demand 3: of the INFO messages for a key queued to an open client from the SUB that last added a pattern which
   -- matches the key, within a commit from that SUB's own turn on, the last carries the key's present value, or none
   -- if it is absent; without any the key is absent.
-  pub last-info : (z : Sizes) (xs : List Call) (j : ℕ) (c : Client) → slotAt j (historyOf protocol z xs .state) ≡ used c
+  pub last-info : (z : Sizes) (xs : List Call) (j : ℕ) (c : Client)
+      → slotAt j (historyOf protocol z xs .state) ≡ used c
       → c .shut ≡ false → (p : Bytes) → held p (c .patterns) ≡ true → (k : Bytes) → protocol .matches p k ≡ true
-      → UpToDate (lastInfo k (drop (historyOf protocol z xs .logs j .added p) (historyOf protocol z xs .logs j .queued)))
+      → UpToDate (lastInfo k (drop (historyOf protocol z xs .logs j .added p)
+      (historyOf protocol z xs .logs j .queued)))
       (lookup k (historyOf protocol z xs .state .store))
   last-info z xs j c w o p h k m = up-to-date k _ _ (knowing z xs .now j c w o .last p k h m)

@@ -20,9 +20,12 @@ pub mod LastInfos
 pub mod Decisions
 pub mod Answers
 pub mod Together
+pub mod Continues
 pub mod NextStates
 pub mod Opened
 pub mod Definitions
 pub mod Tiny
+pub mod Scripts
 pub mod Examples
+pub mod AnswerExamples
 pub mod Sessions

@@ -23,7 +23,8 @@ use Rattle.server.proofs.Subscriptions.{distinct-addPattern, distinct-r
 use Rattle.server.proofs.Subscriptions.{length-removePattern}
 use Rattle.server.proofs.Subscriptions.{each-addPattern, each-removePattern}
 
-each-put : (P : Entry → Type 0) (k v : Bytes) (s : Store) → P (record { key = k; value = v }) → Each P s → Each P (put k v s)
+each-put : (P : Entry → Type 0) (k v : Bytes) (s : Store) → P (record { key = k; value = v }) → Each P s
+    → Each P (put k v s)
 unfolding put
 each-put P k v [] p h = (p, tt)
 each-put P k v (e ∷ s) p h =
@@ -69,7 +70,8 @@ limits-after valid S (ping i) s ps v h r = h
 
 -- A step that is not refused leaves a store within its limits.
 pub limits-storeAfterAll : (valid : Bytes → Bool) (S : ℕ) (xs : List Action) (s : Store) (ps : Patterns)
-    → Each (ValidAction valid) xs → StoreLimits S s → refusesAny S xs s ps ≡ false → StoreLimits S (storeAfterAll xs s)
+    → Each (ValidAction valid) xs → StoreLimits S s → refusesAny S xs s ps ≡ false
+    → StoreLimits S (storeAfterAll xs s)
 unfolding refusesAny storeAfterAll
 limits-storeAfterAll valid S [] s ps v h r = h
 limits-storeAfterAll valid S (a ∷ xs) s ps v h r =

@@ -58,7 +58,8 @@ each-one g n (suc i) (x ∷ l) =
     rw (ne-eqb n (n + suc i) (λ q. omega arith), e) (ap (λ (r : List Slot). x ∷ r) (each-one g (suc n) i l))
 
 module _ (protocol : Protocol) (st : State) (i : ℕ) where
-  one-slot : (g : Slot → Slot) → eachSlot (λ j x. cond (eqb j i) (g x) x) 0 (st .slots) ≡ set (st .slots) i (g (slotAt i st))
+  one-slot : (g : Slot → Slot)
+      → eachSlot (λ j x. cond (eqb j i) (g x) x) 0 (st .slots) ≡ set (st .slots) i (g (slotAt i st))
   unfolding slotAt
   one-slot g = rw (zero-add i) at (each-one g 0 i (st .slots))
 
@@ -95,13 +96,15 @@ module _ (protocol : Protocol) (st : State) (i : ℕ) where
   -- the feeder after its step
   pub slot-stepped-own : (k : Kind) (xs : List Action)
       → slotAt i (afterEvent protocol (stepped i k xs) st)
-      ≡ onClient (λ c. afterStep protocol (st .sizes .queueRoom) true xs (st .store) (withRecording k none c)) (slotAt i st)
+      ≡ onClient (λ c. afterStep protocol (st .sizes .queueRoom) true xs (st .store) (withRecording k none c))
+      (slotAt i st)
   unfolding slotAfterEvent onClient
   slot-stepped-own k xs = go (slot-after protocol (stepped i k xs) st i)
     where
       go : SlotAfter protocol (stepped i k xs) st i
           → slotAt i (afterEvent protocol (stepped i k xs) st)
-          ≡ onClient (λ c. afterStep protocol (st .sizes .queueRoom) true xs (st .store) (withRecording k none c)) (slotAt i st)
+          ≡ onClient (λ c. afterStep protocol (st .sizes .queueRoom) true xs (st .store) (withRecording k none c))
+          (slotAt i st)
       go (inside h) = h ∙ rw (eq-eqb i i refl)
       go (outside h f) = h ∙ rw f
 

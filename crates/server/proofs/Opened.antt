@@ -63,14 +63,16 @@ module _ (protocol : Protocol) where
   slotAt-withSlot i x st h = getD-set-same (st .slots) i x free h
 
   opened-slot : (t : History) (i form : ℕ) (k : Kind) → i < length (t .state .slots) → kindOf form ≡ some k
-      → slotAt i (t .state) ≡ free → decide protocol (opens i form) (t .state) ≡ done 0 [] (opened i k) → OpenedNew t i form
+      → slotAt i (t .state) ≡ free → decide protocol (opens i form) (t .state) ≡ done 0 [] (opened i k)
+      → OpenedNew t i form
   unfolding historyAfter serve logGiven logAfterEvent
   opened-slot t i form k h e w d =
       record {
         kind = k;
         of-form = e;
         was-free = w;
-        client-new = rw (d, after-opened protocol (t .state) i k) (slotAt-withSlot i (used (newClient k)) (t .state) h);
+        client-new =
+            rw (d, after-opened protocol (t .state) i k) (slotAt-withSlot i (used (newClient k)) (t .state) h);
         log-new = rw (d, eq-eqb i i refl);
       }
 

@@ -44,13 +44,13 @@ module _ (protocol : Protocol) (st : State) where
     pub cuts : protocol .cut (c .kind) bs ≡ whole n k x
 
   -- why a message is refused
-  pub data Refuses (c : Client) : Reading → Refusal → Type 0 where
-    not-valid : (r : Refusal) → Refuses c (invalid r) r
-    begun-before : (xs : List Action) → c .recording ≡ some xs → Refuses c (command begin) BadState
+  pub data RefusalCause (c : Client) : Reading → Refusal → Type 0 where
+    not-valid : (r : Refusal) → RefusalCause c (invalid r) r
+    begun-before : (xs : List Action) → c .recording ≡ some xs → RefusalCause c (command begin) BadState
     no-record-room : (a : Action) (xs : List Action) → c .recording ≡ some xs
-        → recordingFits (st .sizes .recordRoom) (xs ++ (a ∷ [])) ≡ false → Refuses c (command (plain a)) Room
+        → recordingFits (st .sizes .recordRoom) (xs ++ (a ∷ [])) ≡ false → RefusalCause c (command (plain a)) Room
     refused-at-turn : (x : Reading) (xs : List Action) → Runs x (c .recording) xs
-        → refusesAny (st .sizes .storeRoom) xs (st .store) (c .patterns) ≡ true → Refuses c x Room
+        → refusesAny (st .sizes .storeRoom) xs (st .store) (c .patterns) ≡ true → RefusalCause c x Room
 
   pub data Outcome : Call → Decision → Type 0 where
     turned-away : (x : Call) (n : ℕ) → 1 ≤ n → n ≤ 8 → Outcome x (unaltered n)
@@ -60,7 +60,7 @@ module _ (protocol : Protocol) (st : State) where
         → Speaks i bs n k x c → Records (st .sizes .recordRoom) x (c .recording) r
         → Outcome (feeds i bs) (done n [] (consumed i k r))
     refusing : (i : ℕ) (bs : Bytes) (n : ℕ) (k : Kind) (x : Reading) (c : Client) (r : Refusal)
-        → Speaks i bs n k x c → Refuses c x r → Outcome (feeds i bs) (refusal n i k r)
+        → Speaks i bs n k x c → RefusalCause c x r → Outcome (feeds i bs) (refusal n i k r)
     running : (i : ℕ) (bs : Bytes) (n : ℕ) (k : Kind) (x : Reading) (c : Client) (xs : List Action)
         → Speaks i bs n k x c → Runs x (c .recording) xs
         → refusesAny (st .sizes .storeRoom) xs (st .store) (c .patterns) ≡ false

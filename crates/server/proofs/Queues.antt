@@ -43,19 +43,20 @@ module _ (protocol : Protocol) (Q : ℕ) (mine : Bool) (xs : List Action) (s : S
   owed = owesAll protocol mine xs s (c .patterns)
 
   -- a client and the messages that were queued to it by a step
-  pub data Stepped : Client → List Message → Type 0 where
-    was-shut : c .shut ≡ true → Stepped c []
+  pub data StepOutcome : Client → List Message → Type 0 where
+    was-shut : c .shut ≡ true → StepOutcome c []
     got-all : c .shut ≡ false → fitsAll protocol Q owed c ≡ true
-        → Stepped (withMessages protocol owed (patternsAfterAll mine xs (c .patterns)) c) owed
-    got-none : c .shut ≡ false → fitsAll protocol Q owed c ≡ false → Stepped (shutBy protocol Room c) (error Room ∷ [])
+        → StepOutcome (withMessages protocol owed (patternsAfterAll mine xs (c .patterns)) c) owed
+    got-none : c .shut ≡ false → fitsAll protocol Q owed c ≡ false
+        → StepOutcome (shutBy protocol Room c) (error Room ∷ [])
 
   -- A step leaves a shut client, gives an open one all that it owes, or shuts it.
-  pub stepped : Stepped (afterStep protocol Q mine xs s c) (queuedByStep protocol Q mine xs s c)
+  pub step-outcome : StepOutcome (afterStep protocol Q mine xs s c) (queuedByStep protocol Q mine xs s c)
   unfolding afterStep queuedByStep
-  stepped =
-      by-test-both Stepped (c .shut)
+  step-outcome =
+      by-test-both StepOutcome (c .shut)
       (λ o. was-shut o)
-      (λ o. by-test-both Stepped (fitsAll protocol Q owed c) (λ f. got-all o f) (λ f. got-none o f))
+      (λ o. by-test-both StepOutcome (fitsAll protocol Q owed c) (λ f. got-all o f) (λ f. got-none o f))
 
 -- An open client that is owed nothing, and whose queue is within its room, is left as it is by a step of another.
 pub afterStep-unowed : (protocol : Protocol) (Q : ℕ) (xs : List Action) (s : Store) (c : Client) → c .shut ≡ false
@@ -63,4 +64,11 @@ pub afterStep-unowed : (protocol : Protocol) (Q : ℕ) (xs : List Action) (s : S
     → afterStep protocol Q false xs s c ≡ c
 unfolding afterStep fitsAll queueFits withMessages
 afterStep-unowed protocol Q xs s c o h e =
-    rw (o, e, append-nil (c .queue), le-leb (queueCharge (c .queue) + 64) Q h, patternsAfterAll-other xs (c .patterns))
+    rw (
+      o,
+      e,
+      append-nil (c .queue),
+      le-leb (queueCharge (c .queue) + 64) Q h,
+      patternsAfterAll-other xs
+          (c .patterns),
+    )

@@ -68,7 +68,8 @@ script =
 
 -- the n-th byte fed is the number of the n-th line
 abbrev input : List Delivery
-input = (1, 0 ∷ []) ∷ (0, 1 ∷ []) ∷ (0, 2 ∷ []) ∷ (0, 3 ∷ []) ∷ (0, 4 ∷ []) ∷ (1, 5 ∷ []) ∷ (0, 6 ∷ []) ∷ (1, 7 ∷ []) ∷ []
+input =
+    (1, 0 ∷ []) ∷ (0, 1 ∷ []) ∷ (0, 2 ∷ []) ∷ (0, 3 ∷ []) ∷ (0, 4 ∷ []) ∷ (1, 5 ∷ []) ∷ (0, 6 ∷ []) ∷ (1, 7 ∷ []) ∷ []
 
 unfoldable output : List Delivery
 output =

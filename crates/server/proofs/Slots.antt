@@ -51,7 +51,9 @@ module _ (protocol : Protocol) (e : Event) (st : State) (j : ℕ) where
 
   pub slot-after : SlotAfter
   unfolding slotAt afterEvent
-  slot-after = go (rw (zero-add j) at (getD-eachSlot (slotAfterEvent protocol (st .sizes .queueRoom) e (st .store)) 0 (st .slots) j))
+  slot-after =
+      go (rw (zero-add j) at (getD-eachSlot (slotAfterEvent protocol (st .sizes .queueRoom) e (st .store)) 0
+      (st .slots) j))
     where
       go : (slotAt j (afterEvent protocol e st)
           ≡ slotAfterEvent protocol (st .sizes .queueRoom) e (st .store) j (slotAt j st))
@@ -65,13 +67,15 @@ module _ (protocol : Protocol) (e : Event) (st : State) (j : ℕ) where
   slot-after-used c w = go slot-after
     where
       go : SlotAfter
-          → slotAt j (afterEvent protocol e st) ≡ slotAfterEvent protocol (st .sizes .queueRoom) e (st .store) j (used c)
+          → slotAt j (afterEvent protocol e st)
+          ≡ slotAfterEvent protocol (st .sizes .queueRoom) e (st .store) j (used c)
       go (inside h) = rw w at h
       go (outside h f) = let z : _≡_ {A = ℕ} 0 1 = cc in absurd (omega arith)
 
 pub after-idle : (protocol : Protocol) (st : State) → afterEvent protocol idle st ≡ st
 unfolding afterEvent storeAfterEvent slotAfterEvent
-after-idle protocol st = rw (each-same (slotAfterEvent protocol (st .sizes .queueRoom) idle (st .store)) (λ j x. refl) 0 (st .slots))
+after-idle protocol st =
+    rw (each-same (slotAfterEvent protocol (st .sizes .queueRoom) idle (st .store)) (λ j x. refl) 0 (st .slots))
 
 replicate-free : (n j : ℕ) → getD (replicate n free) j free ≡ free
 replicate-free zero j = refl

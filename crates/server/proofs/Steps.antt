@@ -85,14 +85,16 @@ patternsAfterAll-other [] ps = refl
 patternsAfterAll-other (a ∷ xs) ps = patternsAfterAll-other xs ps
 
 -- A command sends a client at most one INFO because of its patterns, however many match.
-pub length-notices : (protocol : Protocol) (a : Action) (s : Store) (ps : Patterns) → length (notices protocol a s ps) ≤ 1
+pub length-notices : (protocol : Protocol) (a : Action) (s : Store) (ps : Patterns)
+    → length (notices protocol a s ps) ≤ 1
 unfolding notices
 length-notices protocol (hello t) s ps = omega arith
 length-notices protocol (sub p) s ps = omega arith
 length-notices protocol (unsub p) s ps = omega arith
 length-notices protocol (read k) s ps = omega arith
 length-notices protocol (write k v) s ps =
-    by-test (λ (ms : List Message). length ms ≤ 1) (changes k v s && subscribed protocol ps k) (λ e. omega arith) (λ e. omega arith)
+    by-test (λ (ms : List Message). length ms ≤ 1) (changes k v s && subscribed protocol ps k) (λ e. omega arith)
+    (λ e. omega arith)
 length-notices protocol (ping i) s ps = omega arith
 
 notices-none : (protocol : Protocol) (a : Action) (s : Store) → notices protocol a s [] ≡ []
@@ -120,7 +122,8 @@ pub found-if : {A : Type 0} (b : Bool) (x a : A) → cond b x a ≡ foundOr (con
 found-if true x a = refl
 found-if false x a = refl
 
-lookup-storeAfter : (k : Bytes) (a : Action) (s : Store) → lookup k (storeAfter a s) ≡ foundOr (writeOf k a) (lookup k s)
+lookup-storeAfter : (k : Bytes) (a : Action) (s : Store)
+    → lookup k (storeAfter a s) ≡ foundOr (writeOf k a) (lookup k s)
 unfolding storeAfter writeOf
 lookup-storeAfter k (hello t) s = refl
 lookup-storeAfter k (sub p) s = refl

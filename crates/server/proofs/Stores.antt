@@ -104,7 +104,8 @@ ascending-remove k (e ∷ s) h =
     (λ t. rw t (ascending-remove k s (h .1)))
     (λ t. rw t (after-remove (e .key) k s (h .0), ascending-remove k s (h .1)))
 
-pub ascending-storeAfterWrite : (k : Bytes) (v : Option Bytes) (s : Store) → Ascending s → Ascending (storeAfterWrite k v s)
+pub ascending-storeAfterWrite : (k : Bytes) (v : Option Bytes) (s : Store) → Ascending s
+    → Ascending (storeAfterWrite k v s)
 unfolding storeAfterWrite
 ascending-storeAfterWrite k (some v) s h = ascending-put k v s h
 ascending-storeAfterWrite k none s h = ascending-remove k s h

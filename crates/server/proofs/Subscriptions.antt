@@ -31,7 +31,8 @@ held-addPattern p q ps =
     (λ t. rw t (either (held p ps) (λ u. rw u) (λ u. rw u)))))
 
 -- After an UNSUB its pattern is not held, and every other as before.
-pub held-removePattern : (p q : Bytes) (ps : Patterns) → held p (removePattern q ps) ≡ cond (same p q) false (held p ps)
+pub held-removePattern : (p q : Bytes) (ps : Patterns)
+    → held p (removePattern q ps) ≡ cond (same p q) false (held p ps)
 unfolding held removePattern
 held-removePattern p q [] = either (same p q) (λ t. rw t) (λ t. rw t)
 held-removePattern p q (r ∷ ps) =
@@ -87,7 +88,8 @@ length-addPattern p ps = either (held p ps) (λ h. rw h) (λ h. rw (h, length-ap
 remove-not-held : (p : Bytes) (ps : Patterns) → held p ps ≡ false → removePattern p ps ≡ ps
 unfolding held removePattern
 remove-not-held p [] h = refl
-remove-not-held p (q ∷ ps) h = either (same p q) (λ t. never (rw t at h)) (λ t. rw (t, remove-not-held p ps (rw t at h)))
+remove-not-held p (q ∷ ps) h =
+    either (same p q) (λ t. never (rw t at h)) (λ t. rw (t, remove-not-held p ps (rw t at h)))
 
 pub length-removePattern : (p : Bytes) (ps : Patterns) → Distinct ps
     → length (removePattern p ps) + countOf (held p ps) ≡ length ps

@@ -32,12 +32,12 @@ use Rattle.server.specs.Invariant.{Each, ClientInvariant, Invariant}
 use Rattle.server.proofs.Tests.{never}
 use Rattle.server.proofs.Slots.{slot-after-used}
 use Rattle.server.proofs.Steps.{patternsAfterAll-other, owesAll-none}
-use Rattle.server.proofs.Queues.{encoded-append, owed, Stepped, was-shut, got-all, got-none, stepped}
+use Rattle.server.proofs.Queues.{encoded-append, owed, StepOutcome, was-shut, got-all, got-none, step-outcome}
 use Rattle.server.proofs.Outcomes.{Speaks}
 use Rattle.server.proofs.Changes.{Change, kept, served, spoke, was-refused, ran, watched}
 use Rattle.server.proofs.Invariants.{client-at, invariant-serve, invariant-emptyServer}
 use Rattle.server.proofs.ClientInvariants.{Calm, never-shut}
-use Rattle.server.proofs.Always.{Always, Kept, always}
+use Rattle.server.proofs.Always.{Always, Preserved, always}
 
 append-none : (a b : List Bytes) → a ++ b ≡ [] → a ≡ []
 append-none [] b e = refl
@@ -56,7 +56,8 @@ module _ (protocol : Protocol) where
     pub queued-bytes : encoded protocol (c .kind) (l .queued) ≡ l .taken ++ waiting
 
   -- more messages queued
-  more : (c d : Client) (l : Log) (ms : List Message) (f : Bytes → ℕ) → d .kind ≡ c .kind → (c .kind ≡ Stream → ms ≡ [])
+  more : (c d : Client) (l : Log) (ms : List Message) (f : Bytes → ℕ) → d .kind ≡ c .kind
+      → (c .kind ≡ Stream → ms ≡ [])
       → d .queue ≡ c .queue ++ encoded protocol (c .kind) ms → Accounted c l
       → Accounted d (record { queued = l .queued ++ ms; taken = l .taken; added = f })
   more c d l ms f k n e a =
@@ -83,10 +84,15 @@ module _ (protocol : Protocol) where
       → (c .kind ≡ Stream → queuedByStep protocol Q mine xs s c ≡ []) → Accounted c l
       → Accounted (afterStep protocol Q mine xs s c) (logAfterStep protocol Q mine xs s c l)
   unfolding logAfterStep withMessages shutBy
-  step-accounted Q mine xs s c l n a = go n (stepped protocol Q mine xs s c)
+  step-accounted Q mine xs s c l n a = go n (step-outcome protocol Q mine xs s c)
     where
-      go : {d : Client} {ms : List Message} → (c .kind ≡ Stream → ms ≡ []) → Stepped protocol Q mine xs s c d ms
-          → Accounted d (record { queued = l .queued ++ ms; taken = l .taken; added = logAfterStep protocol Q mine xs s c l .added })
+      go : {d : Client} {ms : List Message} → (c .kind ≡ Stream → ms ≡ []) → StepOutcome protocol Q mine xs s c d ms
+          → Accounted d (record {
+            queued = l .queued ++ ms;
+            taken = l .taken;
+            added = logAfterStep protocol Q mine xs
+                s c l .added;
+          })
       go h (was-shut o) = more c c l [] _ refl h (sym (append-nil (c .queue))) a
       go h (got-all o f) = more c _ l _ _ refl h refl a
       go h (got-none o f) = more c _ l _ _ refl h refl a
@@ -102,9 +108,10 @@ module _ (protocol : Protocol) where
 
   module _ (valid : Bytes → Bool) (law : Lawful protocol valid) where
     -- a step of another queues nothing to a client whose kind is not fixed
-    quiet : (z : Sizes) (xs : List Action) (s : Store) (c : Client) → ClientInvariant protocol valid z c → c .kind ≡ Stream
+    quiet : (z : Sizes) (xs : List Action) (s : Store) (c : Client) → ClientInvariant protocol valid z c
+        → c .kind ≡ Stream
         → queuedByStep protocol (z .queueRoom) false xs s c ≡ []
-    quiet z xs s c g p = go (stepped protocol (z .queueRoom) false xs s c)
+    quiet z xs s c g p = go (step-outcome protocol (z .queueRoom) false xs s c)
       where
         none-held : c .patterns ≡ []
         none-held = g .stream-empty p .1
@@ -112,17 +119,20 @@ module _ (protocol : Protocol) where
         calm : Calm protocol valid law z false xs s c g
         calm q = (rw none-held (owesAll-none protocol xs s), rw none-held (patternsAfterAll-other xs []))
 
-        go : {d : Client} {ms : List Message} → Stepped protocol (z .queueRoom) false xs s c d ms → ms ≡ []
+        go : {d : Client} {ms : List Message} → StepOutcome protocol (z .queueRoom) false xs s c d ms → ms ≡ []
         go (was-shut o) = refl
         go (got-all o f) = rw none-held (owesAll-none protocol xs s)
         go (got-none o f) = absurd (never-shut protocol valid law z false xs s c g calm o f p)
 
-    accounted-next : (st : State) → Invariant protocol valid st → (j : ℕ) (c : Client) (l : Log) → slotAt j st ≡ used c
-        → Accounted c l → {x : Call} {s : Store} {d : Client} {m : Log} → Change protocol st c l x s d m → Accounted d m
+    accounted-next : (st : State) → Invariant protocol valid st → (j : ℕ) (c : Client) (l : Log)
+        → slotAt j st ≡ used c
+        → Accounted c l → {x : Call} {s : Store} {d : Client} {m : Log} → Change protocol st c l x s d m
+        → Accounted d m
     unfolding withRecording shutBy
     accounted-next st inv j c l w a (kept y) = a
     accounted-next st inv j c l w a (served i len m ms v q) = take-accounted c l m ms q a
-    accounted-next st inv j c l w a (spoke i bs n k x r sp rec) = fixing k r c l (law .fixes (c .kind) k bs n x (sp .cuts)) a
+    accounted-next st inv j c l w a (spoke i bs n k x r sp rec) =
+        fixing k r c l (law .fixes (c .kind) k bs n x (sp .cuts)) a
     accounted-next st inv j c l w a (was-refused i bs n k x r sp why) =
         let f = law .fixes (c .kind) k bs n x (sp .cuts) in
         more (withRecording k none c) (shutBy protocol r (withRecording k none c)) l (error r ∷ []) (l .added)
@@ -138,7 +148,7 @@ module _ (protocol : Protocol) where
     abbrev Accounts : Store → Client → Log → Type 0
     Accounts s c l = Accounted c l
 
-    accounts-kept : Kept protocol (Invariant protocol valid) Accounts TakenFirst
+    accounts-kept : Preserved protocol (Invariant protocol valid) Accounts TakenFirst
     unfolding newClient
     accounts-kept =
         record {

@@ -97,8 +97,10 @@ module _ (script : List Reading) where
   consumes k l [] n r e = let z : _≡_ {A = ℕ} 0 1 = cc in absurd (omega arith)
   consumes k l (b ∷ bs) n r e = let q : 1 ≡ n = cc in omega arith
 
-  reads : (valid : Bytes → Bool) → ((n : ℕ) (a : Action) → getD script n blank ≡ command (plain a) → ValidAction valid a)
-      → (k l : Kind) (bs : Bytes) (n : ℕ) (a : Action) → tinyCut script k bs ≡ whole n l (command (plain a)) → ValidAction valid a
+  reads : (valid : Bytes → Bool)
+      → ((n : ℕ) (a : Action) → getD script n blank ≡ command (plain a) → ValidAction valid a)
+      → (k l : Kind) (bs : Bytes) (n : ℕ) (a : Action) → tinyCut script k bs ≡ whole n l (command (plain a))
+      → ValidAction valid a
   unfolding tinyCut
   reads valid h k l [] n a e = let z : _≡_ {A = ℕ} 0 1 = cc in absurd (omega arith)
   reads valid h k l (b ∷ bs) n a e = let q : getD script b blank ≡ command (plain a) = cc in h b a q
@@ -110,7 +112,8 @@ module _ (script : List Reading) where
   error-fits k Room = omega arith
   error-fits k BadState = omega arith
 
-  pub tiny-lawful : (valid : Bytes → Bool) → ((n : ℕ) (a : Action) → getD script n blank ≡ command (plain a) → ValidAction valid a)
+  pub tiny-lawful : (valid : Bytes → Bool)
+      → ((n : ℕ) (a : Action) → getD script n blank ≡ command (plain a) → ValidAction valid a)
       → Lawful (tiny script) valid
   unfolding tiny
   tiny-lawful valid h = record { fixes = fixes; consumes = consumes; reads = reads valid h; error-fits = error-fits }

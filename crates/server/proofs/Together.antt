@@ -23,7 +23,7 @@ use Rattle.server.specs.Calls.{decide, serve}
 use Rattle.server.specs.Log.{Log, logAfterStep, onLog, logAfterEvent, logGiven}
 use Rattle.server.specs.History.{Past, History, pastOf, closedBy, historyAfter, historyAfterAll}
 use Rattle.server.proofs.Tests.{either}
-use Rattle.server.proofs.Outcomes.{Runs, at-once, committed, Speaks, Refuses}
+use Rattle.server.proofs.Outcomes.{Runs, at-once, committed, Speaks, RefusalCause}
 use Rattle.server.proofs.Changes.{Change, kept, served, spoke, was-refused, ran, watched}
 use Rattle.server.proofs.Changes.{SlotChange, vacant, closed-now, opened-now, changed, slot-change}
 use Rattle.server.proofs.Decisions.{feed-commit, feed-command, step-done}
@@ -59,7 +59,9 @@ module _ (protocol : Protocol) where
     owedBy = owesAll protocol (eqb j i) xs (t .state .store) (d .patterns)
 
     abbrev pub DeliveredTo : Type 0
-    DeliveredTo = Delivered (t .state .sizes .queueRoom) owedBy duringStep (t .logs j) (historyAfter protocol (feeds i bs) t .logs j)
+    DeliveredTo =
+        Delivered (t .state .sizes .queueRoom) owedBy duringStep (t .logs j)
+        (historyAfter protocol (feeds i bs) t .logs j)
 
     pub step-together : decide protocol (feeds i bs) (t .state) ≡ done n [] (stepped i k xs)
         → slotAt j (t .state) ≡ used d → d .shut ≡ false → DeliveredTo
@@ -80,7 +82,8 @@ module _ (protocol : Protocol) where
 
     -- A COMMIT answered 0 with a recording queues to each open client all that the recorded commands owe it, or none
     -- of it.
-    pub commit-together : (c : Client) → Speaks protocol (t .state) i bs n k (command commit) c → c .recording ≡ some xs
+    pub commit-together : (c : Client) → Speaks protocol (t .state) i bs n k (command commit) c
+        → c .recording ≡ some xs
         → refusesAny (t .state .sizes .storeRoom) xs (t .state .store) (c .patterns) ≡ false
         → slotAt j (t .state) ≡ used d → d .shut ≡ false → DeliveredTo
     commit-together c sp r f =
@@ -93,7 +96,8 @@ module _ (protocol : Protocol) where
       → refusesAny (t .state .sizes .storeRoom) (a ∷ []) (t .state .store) (c .patterns) ≡ false
       → slotAt j (t .state) ≡ used d → d .shut ≡ false → DeliveredTo t i bs n k (a ∷ []) j d
   command-together t i bs n k a j d c sp r f =
-      step-together t i bs n k (a ∷ []) j d (feed-command protocol (t .state) i bs n k (command (plain a)) c sp a refl r
+      step-together t i bs n k (a ∷ []) j d (feed-command protocol (t .state) i bs n k (command (plain a)) c sp a
+      refl r
       ∙ step-done protocol (t .state) i bs n k (command (plain a)) c sp (a ∷ []) f)
 
   -- ---- nothing else
@@ -103,12 +107,15 @@ module _ (protocol : Protocol) where
   pub data Queued (st : State) (c : Client) : Call → List Message → Type 0 where
     nothing : (x : Call) → Queued st c x []
     its-error : (i : ℕ) (bs : Bytes) (n : ℕ) (k : Kind) (y : Reading) (r : Refusal) → Speaks protocol st i bs n k y c
-        → Refuses protocol st c y r → Queued st c (feeds i bs) (error r ∷ [])
-    by-its-step : (i : ℕ) (bs : Bytes) (n : ℕ) (k : Kind) (y : Reading) (xs : List Action) → Speaks protocol st i bs n k y c
-        → Runs y (c .recording) xs
-        → Queued st c (feeds i bs) (queuedByStep protocol (st .sizes .queueRoom) true xs (st .store) (withRecording k none c))
+        → RefusalCause protocol st c y r → Queued st c (feeds i bs) (error r ∷ [])
+    by-its-step : (i : ℕ) (bs : Bytes) (n : ℕ) (k : Kind) (y : Reading) (xs : List Action)
+        → Speaks protocol st i bs n k y c
+        → Runs y (c .recording) xs → refusesAny (st .sizes .storeRoom) xs (st .store) (c .patterns) ≡ false
+        → Queued st c (feeds i bs) (queuedByStep protocol (st .sizes .queueRoom) true xs (st .store)
+        (withRecording k none c))
     by-another's-step : (i : ℕ) (bs : Bytes) (n : ℕ) (k : Kind) (y : Reading) (feeder : Client) (xs : List Action)
         → Speaks protocol st i bs n k y feeder → Runs y (feeder .recording) xs
+        → refusesAny (st .sizes .storeRoom) xs (st .store) (feeder .patterns) ≡ false
         → Queued st c (feeds i bs) (queuedByStep protocol (st .sizes .queueRoom) false xs (st .store) c)
 
   pub record QueuedBy (st : State) (c : Client) (x : Call) (old new : Log) : Type 0 where
@@ -116,17 +123,21 @@ module _ (protocol : Protocol) where
     pub why : Queued st c x messages
     pub grown : new .queued ≡ old .queued ++ messages
 
-  queued-by : (st : State) (c : Client) (l : Log) {x : Call} {s : Store} {d : Client} {m : Log} → Change protocol st c l x s d m
+  pub queued-by : (st : State) (c : Client) (l : Log) {x : Call} {s : Store} {d : Client} {m : Log}
+      → Change protocol st c l x s d m
       → QueuedBy st c x l m
   unfolding logAfterStep
   queued-by st c l (kept x) = record { messages = []; why = nothing x; grown = sym (append-nil (l .queued)) }
-  queued-by st c l (served i len m ms w q) = record { messages = []; why = nothing _; grown = sym (append-nil (l .queued)) }
-  queued-by st c l (spoke i bs n k y r sp rec) = record { messages = []; why = nothing _; grown = sym (append-nil (l .queued)) }
+  queued-by st c l (served i len m ms w q) =
+      record { messages = []; why = nothing _; grown = sym (append-nil (l .queued)) }
+  queued-by st c l (spoke i bs n k y r sp rec) =
+      record { messages = []; why = nothing _; grown = sym (append-nil (l .queued)) }
   queued-by st c l (was-refused i bs n k y r sp why) =
       record { messages = error r ∷ []; why = its-error i bs n k y r sp why; grown = refl }
-  queued-by st c l (ran i bs n k y xs sp run ok) = record { messages = _; why = by-its-step i bs n k y xs sp run; grown = refl }
+  queued-by st c l (ran i bs n k y xs sp run ok) =
+      record { messages = _; why = by-its-step i bs n k y xs sp run ok; grown = refl }
   queued-by st c l (watched i bs n k y feeder xs sp run ok) =
-      record { messages = _; why = by-another's-step i bs n k y feeder xs sp run; grown = refl }
+      record { messages = _; why = by-another's-step i bs n k y feeder xs sp run ok; grown = refl }
 
   -- A call queues to a client what is due and nothing else, behind all that was queued before.
   pub nothing-else-queued : (t : History) (x : Call) (j : ℕ) (c e : Client) → slotAt j (t .state) ≡ used c
@@ -141,40 +152,3 @@ module _ (protocol : Protocol) where
       go (closed-now b u g h) = free-not-used _ e g v
       go (opened-now k f g h) = free-not-used _ c f w
       go (changed b d u g h) = let q : b ≡ c = cc in rw q at (queued-by (t .state) b (t .logs j) h)
-
-  -- ---- for ever
-
-  -- The client of the slot j to which these messages had been queued: it is there still, or since closed, and they
-  -- come first of all that were ever queued to it.
-  pub data Continues (q : List Message) (j : ℕ) (t : History) : Type 0 where
-    still : (c : Client) → slotAt j (t .state) ≡ used c → (later : List Message) → t .logs j .queued ≡ q ++ later → Continues q j t
-    since : (earlier : List Past) (p : Past) (others : List Past) → t .past ≡ earlier ++ p ∷ others
-        → (later : List Message) → p .log .queued ≡ q ++ later → Continues q j t
-
-  continues-call : (q : List Message) (j : ℕ) (x : Call) (t : History) → Continues q j t → Continues q j (historyAfter protocol x t)
-  unfolding historyAfter serve closedBy pastOf
-  continues-call q j x t (since a p b e later h) =
-      since a p (b ++ closedBy (decide protocol x (t .state) .event) (t .state) (t .logs))
-      (rw (e, append-assoc)) later h
-  continues-call q j x t (still c w later h) = go (slot-change protocol (t .state) (t .logs) j x)
-    where
-      closed-past : decide protocol x (t .state) .event ≡ closed j
-          → closedBy (decide protocol x (t .state) .event) (t .state) (t .logs) ≡ record { client = c; log = t .logs j } ∷ []
-      closed-past e = rw (e, w)
-
-      go : SlotChange protocol (t .state) (t .logs) j x (decide protocol x (t .state)) → Continues q j (historyAfter protocol x t)
-      go (vacant f g) = free-not-used _ c f w
-      go (closed-now b u g e) =
-          since (t .past) (record { client = c; log = t .logs j }) [] (rw (closed-past e)) later h
-      go (opened-now k f g e) = free-not-used _ c f w
-      go (changed b d u g e) =
-          let n = queued-by (t .state) b (t .logs j) e in
-          still d g (later ++ n .messages)
-          (n .grown ∙ (ap (λ (l : List Message). l ++ n .messages) h ∙ append-assoc q later (n .messages)))
-
-  -- Through every later list of calls.
-  pub continues : (q : List Message) (j : ℕ) (ys : List Call) (t : History) → Continues q j t
-      → Continues q j (historyAfterAll protocol ys t)
-  unfolding historyAfterAll
-  continues q j [] t h = h
-  continues q j (y ∷ ys) t h = continues q j ys (historyAfter protocol y t) (continues-call q j y t h)

@@ -12,8 +12,9 @@ use Rattle.server.specs.Decision.{Call, takes, Reply}
 use Rattle.server.specs.Calls.{decide, serve}
 use Rattle.server.specs.Log.{Log, newLog, logAfterEvent, logGiven}
 
--- a client since closed, as it was at its close, and its log
+-- a client since closed: its slot, the client as it was at its close, and its log
 pub record Past : Type 0 where
+  pub slot : ℕ
   pub client : Client
   pub log : Log
 
@@ -24,15 +25,15 @@ pub record History : Type 0 where
   pub past : List Past
 
 -- the client that was in the slot, if there was one
-unfoldable pub pastOf : Slot → Log → List Past
-pastOf free l = []
-pastOf (used c) l = record { client = c; log = l } ∷ []
+unfoldable pub pastOf : ℕ → Slot → Log → List Past
+pastOf i free l = []
+pastOf i (used c) l = record { slot = i; client = c; log = l } ∷ []
 
 -- the client that an event closes
 unfoldable pub closedBy : Event → State → (ℕ → Log) → List Past
 closedBy idle st f = []
 closedBy (opened i k) st f = []
-closedBy (closed i) st f = pastOf (slotAt i st) (f i)
+closedBy (closed i) st f = pastOf i (slotAt i st) (f i)
 closedBy (took i) st f = []
 closedBy (consumed i k r) st f = []
 closedBy (refused i k r) st f = []

@@ -53,19 +53,20 @@ decideClose i (used c) = done 0 [] (closed i)
 
 -- ---- any call
 
--- what a call gives back, and the state that it leaves
+-- the result of a call
 pub record Out : Type 0 where
   pub reply : Reply
   pub next : State
 
 module _ (protocol : Protocol) where
+  -- what a call gives back and does, from the checks above
   unfoldable pub decide : Call → State → Decision
   decide (opens i form) st = decideOpen (st .sizes .slotCount) i form (slotAt i st)
   decide (feeds i bs) st = decideFeed protocol (st .sizes) (st .store) i bs (slotAt i st)
   decide (takes i len) st = decideTake i len (slotAt i st)
   decide (closes i) st = decideClose i (slotAt i st)
 
-  -- one call
+  -- one call: what it gives back, and the state that it leaves
   unfoldable pub serve : Call → State → Out
   serve x st = record { reply = decide x st .reply; next = afterEvent protocol (decide x st .event) st }
 

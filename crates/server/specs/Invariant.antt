@@ -50,6 +50,7 @@ module _ (protocol : Protocol) (valid : Bytes → Bool) where
     pub fits : recordingFits R xs ≡ true
     pub actions : Each (ValidAction valid) xs
 
+  -- a client within its limits, in a server of these sizes
   pub record ClientInvariant (z : Sizes) (c : Client) : Type 0 where
     -- at most 16 patterns, distinct and valid
     pub few : length (c .patterns) ≤ 16
@@ -67,10 +68,13 @@ module _ (protocol : Protocol) (valid : Bytes → Bool) where
     -- a client whose kind is not fixed yet has nothing
     pub stream-empty : c .kind ≡ Stream → (c .queue ≡ []) × (c .patterns ≡ []) × (c .recording ≡ none)
 
+  -- a free slot has no rule
   abbrev pub SlotInvariant : Sizes → Slot → Type 0
   SlotInvariant z free = Unit {0}
   SlotInvariant z (used c) = ClientInvariant z c
 
+  -- a state within its limits: sizes in range, N slots, a store in order and within S and 1,024 entries, sound
+  -- clients
   pub record Invariant (st : State) : Type 0 where
     pub sizes-in-range : inRange (st .sizes) ≡ true
     pub slots-counted : length (st .slots) ≡ st .sizes .slotCount

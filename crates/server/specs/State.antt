@@ -33,6 +33,7 @@ pub data Slot : Type 0 where
   free : Slot
   used : Client → Slot
 
+-- the whole server: the sizes of its set up, the entries, and the slots from number 0 on
 pub record State : Type 0 where
   pub sizes : Sizes
   pub store : Store

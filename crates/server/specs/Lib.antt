@@ -1,0 +1,15 @@
+pub mod Store
+pub mod Patterns
+pub mod Step
+pub mod Turn
+pub mod State
+pub mod Queue
+pub mod Events
+pub mod Decision
+pub mod Feed
+pub mod Calls
+pub mod Log
+pub mod History
+pub mod LastInfo
+pub mod Lawful
+pub mod Invariant

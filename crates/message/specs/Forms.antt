@@ -1,0 +1,120 @@
+-- The three forms of a message (document 01, "Messages written"; document 000, "Binary form of messages" and "Text form
+-- of messages"). A message is an ID and a payload in binary form, so each form is stated once for the eight commands and
+-- the four server messages.
+-- A kind says which form: packets, frames or text. A stream whose kind is not fixed yet has no form of its own, and
+-- nothing is written to it; the definition gives it frames, so that it is total.
+-- An ID in no row of the table is no message: as a text line it has no word and no fields.
+use mathlib.Core.List.{List, [], _∷_, _++_}
+use mathlib.Core.Bool.{Bool, cond}
+use mathlib.Core.Option.{Option, some, none}
+use Prim.Native.Nat.{ℕ, _+_, _/_, _%_}
+use lib.Dec.{eqb, ltb}
+use lib.ListN.{length, take, drop}
+use Rattle.octets.specs.Octets.{Bytes, ascii, hasNul, firstNul}
+use Rattle.protocol.specs.declared.Kind.{Kind}
+use Rattle.protocol.specs.declared.Kind.the-variants.{Packets, Stream, Framed, Text}
+use Rattle.protocol.specs.Terms.{Message, messageId, messagePayload}
+use Rattle.message.specs.declared.Shape.{Shape}
+use Rattle.message.specs.declared.Shape.the-variants.{Numbered, Quoted, Keyed, Bare}
+use Rattle.message.specs.Quoting.{quote, decimal}
+
+-- ---- the messages by ID
+
+-- a message's ID, the word of its text line, and how the line's fields follow from the payload
+pub record Row : Type 0 where
+  pub id : ℕ
+  pub word : Bytes
+  pub shape : Shape
+
+abbrev pub row : ℕ → Bytes → Shape → Row
+row i w s = record { id = i; word = w; shape = s }
+
+-- the eight commands and the four server messages
+abbrev pub table : List Row
+table =
+    row 0 (ascii "HELLO") Numbered
+    ∷ row 1 (ascii "SUB") Quoted
+    ∷ row 2 (ascii "UNSUB") Quoted
+    ∷ row 3 (ascii "READ") Quoted
+    ∷ row 4 (ascii "WRITE") Keyed
+    ∷ row 5 (ascii "BEGIN") Bare
+    ∷ row 6 (ascii "COMMIT") Bare
+    ∷ row 7 (ascii "PING") Quoted
+    ∷ row 128 (ascii "VERSION") Numbered
+    ∷ row 129 (ascii "INFO") Keyed
+    ∷ row 130 (ascii "PONG") Quoted
+    ∷ row 131 (ascii "ERROR") Numbered
+    ∷ []
+
+-- the row of an ID
+unfoldable pub rowIn : List Row → ℕ → Row
+rowIn [] i = row i [] Bare
+rowIn (r ∷ rs) i = cond (eqb i (r .id)) r (rowIn rs i)
+
+unfoldable pub word : ℕ → Bytes
+word i = rowIn table i .word
+
+unfoldable pub shape : ℕ → Shape
+shape i = rowIn table i .shape
+
+-- ---- the text form
+
+-- the key of a payload: all before its first NUL
+abbrev pub keyOf : Bytes → Bytes
+keyOf p = take (firstNul p) p
+
+-- the value of a payload: all after its first NUL, if it has one
+unfoldable pub valueOf : Bytes → Option Bytes
+valueOf p = cond (hasNul p) (some (drop (firstNul p + 1) p)) none
+
+-- a space and a string
+abbrev pub field : Bytes → Bytes
+field s = 32 ∷ quote s
+
+-- a space and a value, or nothing
+unfoldable pub valueField : Option Bytes → Bytes
+valueField none = []
+valueField (some v) = field v
+
+-- a number, which is the payload's first byte, and the rest as one string. A payload without its number has no fields.
+unfoldable pub numberFields : Bytes → Bytes
+numberFields [] = []
+numberFields (n ∷ t) = 32 ∷ decimal n ++ field t
+
+-- the fields of a payload, each with the space before it
+unfoldable pub fields : Shape → Bytes → Bytes
+fields Numbered p = numberFields p
+fields Quoted p = field p
+fields Keyed p = field (keyOf p) ++ valueField (valueOf p)
+fields Bare p = []
+
+-- a line's end: LF for a command, CR LF for a server message, whose IDs are 128 and above
+unfoldable pub ending : ℕ → Bytes
+ending i = cond (ltb i 128) (10 ∷ []) (13 ∷ 10 ∷ [])
+
+-- a text line: the word in capitals, the fields, the end
+unfoldable pub line : ℕ → Bytes → Bytes
+line i p = word i ++ fields (shape i) p ++ ending i
+
+-- ---- the binary forms
+
+-- ID and payload
+abbrev pub packet : ℕ → Bytes → Bytes
+packet i p = i ∷ p
+
+-- ID, the payload's length in two bytes, the high one first, and the payload
+abbrev pub frame : ℕ → Bytes → Bytes
+frame i p = i ∷ (length p / 256) ∷ (length p % 256) ∷ p
+
+-- ---- all three
+
+-- the bytes of a message to a client of a kind
+unfoldable pub encoded : Kind → ℕ → Bytes → Bytes
+encoded Packets i p = packet i p
+encoded Stream i p = frame i p
+encoded Framed i p = frame i p
+encoded Text i p = line i p
+
+-- a message of the server as bytes
+unfoldable pub written : Kind → Message → Bytes
+written k m = encoded k (messageId m) (messagePayload m)

@@ -1,0 +1,4 @@
+pub mod Quoting
+pub mod Forms
+pub mod Writing
+pub mod Examples

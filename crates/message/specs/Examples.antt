@@ -13,8 +13,8 @@ use Rattle.protocol.specs.Terms.{Message, version, info, pong, error, valueTail
 use Rattle.message.specs.declared.Message.the-variants.{Info}
 use Rattle.message.specs.declared.Written.the-variants.{Done, Short, TooLong}
 use Rattle.message.specs.Quoting.{isEscaped, escape, escapes, quote, decimal}
-use Rattle.message.specs.Forms.{rowIn, word, shape, valueOf, valueField, numberFields, fields, ending}
-use Rattle.message.specs.Forms.{line, encoded, written}
+use Rattle.message.specs.Forms.{rowIn, rowOf, valueOf, valueField, numberFields, fields, ending}
+use Rattle.message.specs.Forms.{line, form, encoded, written}
 use Rattle.message.specs.Writing.{said, lengthWith, writtenLength, outcome, writing, answered}
 
 -- a line of a server message
@@ -76,11 +76,11 @@ binaries =
 
 pub written-texts : map computed texts ≡ map given texts
 unfolding ascii hasNul firstNul valueTail messagePayload reason isEscaped escape escapes quote decimal
-    rowIn word shape valueOf valueField numberFields fields ending line encoded written
+    rowIn rowOf valueOf valueField numberFields fields ending line form encoded written
 written-texts = refl
 
 pub written-binaries : map computed binaries ≡ map given binaries
-unfolding ascii valueTail messagePayload reason encoded written
+unfolding ascii valueTail messagePayload reason rowIn rowOf form encoded written
 written-binaries = refl
 
 -- ---- commands as text lines: ID, payload, line
@@ -109,7 +109,7 @@ commandGiven c = c .2
 
 pub encoded-commands : map commandLine commands ≡ map commandGiven commands
 unfolding ascii hasNul firstNul isEscaped escape escapes quote decimal
-    rowIn word shape valueOf valueField numberFields fields ending line encoded
+    rowIn rowOf valueOf valueField numberFields fields ending line form encoded
 encoded-commands = refl
 
 -- ---- bodies, lengths and answers
@@ -128,7 +128,7 @@ said-bodies = refl
 -- a framed PONG of one byte needs four bytes, and leaves the fifth as it was
 pub written-pong : map (writing Framed (pong (ascii "x"))) ((1 ∷ 2 ∷ 3 ∷ []) ∷ (1 ∷ 2 ∷ 3 ∷ 4 ∷ 5 ∷ []) ∷ []) ≡
     answered Short (1 ∷ 2 ∷ 3 ∷ []) ∷ answered (Done 4) (130 ∷ 0 ∷ 1 ∷ 120 ∷ 5 ∷ []) ∷ []
-unfolding ascii messagePayload encoded written outcome
+unfolding ascii messagePayload rowIn rowOf form encoded written outcome
 written-pong = refl
 
 -- an identifier of 65,536 bytes is refused, whatever the slice, and has no length

@@ -46,16 +46,13 @@ table =
     ∷ row 131 (ascii "ERROR") Numbered
     ∷ []
 
--- the row of an ID
+-- the row of an ID in a table
 unfoldable pub rowIn : List Row → ℕ → Row
 rowIn [] i = row i [] Bare
 rowIn (r ∷ rs) i = cond (eqb i (r .id)) r (rowIn rs i)
 
-unfoldable pub word : ℕ → Bytes
-word i = rowIn table i .word
-
-unfoldable pub shape : ℕ → Shape
-shape i = rowIn table i .shape
+unfoldable pub rowOf : ℕ → Row
+rowOf i = rowIn table i
 
 -- ---- the text form
 
@@ -93,8 +90,8 @@ unfoldable pub ending : ℕ → Bytes
 ending i = cond (ltb i 128) (10 ∷ []) (13 ∷ 10 ∷ [])
 
 -- a text line: the word in capitals, the fields, the end
-unfoldable pub line : ℕ → Bytes → Bytes
-line i p = word i ++ fields (shape i) p ++ ending i
+unfoldable pub line : Row → Bytes → Bytes
+line r p = r .word ++ fields (r .shape) p ++ ending (r .id)
 
 -- ---- the binary forms
 
@@ -108,12 +105,16 @@ frame i p = i ∷ (length p / 256) ∷ (length p % 256) ∷ p
 
 -- ---- all three
 
--- the bytes of a message to a client of a kind
+-- a payload as the message of a row
+unfoldable pub form : Kind → Row → Bytes → Bytes
+form Packets r p = packet (r .id) p
+form Stream r p = frame (r .id) p
+form Framed r p = frame (r .id) p
+form Text r p = line r p
+
+-- the bytes of a message, given by its ID and its payload, to a client of a kind
 unfoldable pub encoded : Kind → ℕ → Bytes → Bytes
-encoded Packets i p = packet i p
-encoded Stream i p = frame i p
-encoded Framed i p = frame i p
-encoded Text i p = line i p
+encoded k i p = form k (rowOf i) p
 
 -- a message of the server as bytes
 unfoldable pub written : Kind → Message → Bytes

@@ -1,0 +1,39 @@
+use borrow.Author.Tests.{ne-eqb}
+use Rattle.message.specs.Quoting.{isEscaped}
+use Rattle.message.proofs.quoting.is_escaped.Statement.{statement}
+use Rattle.message.proofs.quoting.is_escaped.Tie as tie
+
+returns : tie.Need-returns
+unfolding isEscaped
+returns c = rw (c .match .keys1)
+
+returns-2 : tie.Need-returns-2
+unfolding isEscaped
+returns-2 c = rw (c .match .keys2)
+
+returns-3 : tie.Need-returns-3
+unfolding isEscaped
+returns-3 c = rw (c .match .keys3)
+
+returns-4 : tie.Need-returns-4
+unfolding isEscaped
+returns-4 c = rw (c .match .keys4)
+
+returns-5 : tie.Need-returns-5
+unfolding isEscaped
+returns-5 c = rw (c .match .keys5)
+
+returns-6 : tie.Need-returns-6
+unfolding isEscaped
+returns-6 c =
+    let r = c .match .rest in
+    simp (
+      ne-eqb _ _ (r .1),
+      ne-eqb _ _ (r .0 .1),
+      ne-eqb _ _ (r .0 .0 .1),
+      ne-eqb _ _ (r .0 .0 .0 .1),
+      ne-eqb _ _ (r .0 .0 .0 .0 .1),
+    )
+
+pub is-escaped-spec : {M : Type 1} → statement M
+is-escaped-spec = tie.close (tie.spec returns returns-2 returns-3 returns-4 returns-5 returns-6)

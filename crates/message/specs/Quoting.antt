@@ -2,7 +2,7 @@
 -- stands in quotation marks, also where document 000 would let it go without.
 -- Numbers: 10 LF, 13 CR, 32 space, 34 quotation mark, 48 the digit 0, 92 backslash.
 use mathlib.Core.List.{List, [], _∷_, _++_}
-use mathlib.Core.Bool.{Bool, cond, _||_}
+use mathlib.Core.Bool.{Bool, false, cond, _||_}
 use Prim.Native.Nat.{ℕ, _+_, _/_, _%_}
 use lib.Dec.{eqb, ltb}
 use Rattle.octets.specs.Octets.{Bytes}
@@ -35,3 +35,8 @@ decimal n =
     cond (ltb n 10) ((48 + n) ∷ [])
     (cond (ltb n 100) ((48 + n / 10) ∷ (48 + n % 10) ∷ [])
     ((48 + n / 100) ∷ (48 + n / 10 % 10) ∷ (48 + n % 10) ∷ []))
+
+-- whether a byte stands in a list
+unfoldable pub has : ℕ → Bytes → Bool
+has b [] = false
+has b (c ∷ s) = eqb c b || has b s

@@ -6,9 +6,10 @@ use mathlib.Core.Option.{Option, some, none}
 use Prim.Native.Nat.{ℕ, zero, suc, _+_, _-_, _*_, _/_, _%_, _≤_, _<_, compare·suc-suc}
 use native.Mathlib.Numerals.{add-one}
 use native.Mathlib.Omega.{arith}
+use mir.Val.{boolByte}
 use lib.Dec.{eqb, ltb, leb}
 use lib.ListN.{length, set, getD, drop, take, length-append, length-drop, length-set, take-append-drop, drop-of-length-le}
-use lib.Seq.{take-all, sets, length-sets, take-suc, take-length, drop-cons, drop-length}
+use lib.Seq.{take-all, sets, length-sets, take-suc, take-length, drop-cons, drop-drop}
 use borrow.Author.Tests.{eqb-true, eqb-false, eq-eqb, ne-eqb, lt-ltb, le-ltb, ltb-true}
 use Rattle.octets.specs.Octets.{Bytes, hasNul, firstNul}
 use Rattle.octets.proofs.Laws.{sets-append}
@@ -112,9 +113,11 @@ escaped-most (c ∷ s) = by (isEscaped c) (escaped-most s)
 
 -- one more byte counted
 module _ (s : Bytes) (i : ℕ) (h : i < length s) where
-  pub escaped-drop : (b : Bool) → isEscaped (getD s i 0) ≡ b → escaped (drop i s) ≡ cond b 1 0 + escaped (drop (i + 1) s)
+  pub escaped-drop : (b : Bool) → b ≡ isEscaped (getD s i 0)
+      → (boolByte b ≤ 1) × (escaped (drop i s) ≡ boolByte b + escaped (drop (i + 1) s))
   unfolding escaped
-  escaped-drop b e = rw (add-one i, drop-cons s i 0 h, e)
+  escaped-drop true e = (omega arith, rw (add-one i, drop-cons s i 0 h, ← e))
+  escaped-drop false e = (omega arith, rw (add-one i, drop-cons s i 0 h, ← e))
 
 pub escaped-drop-all : (s : Bytes) (i : ℕ) → length s ≤ i → escaped (drop i s) ≡ 0
 unfolding escaped
@@ -131,3 +134,26 @@ length-decimal n = by (ltb n 10) (ltb n 100) refl refl
     by true b e f = rw e (omega arith)
     by false true e f = rw (e, f) (omega arith)
     by false false e f = rw (e, f) (omega arith)
+
+-- where nothing is escaped, a string has its own bytes
+pub escapes-plain : (s : Bytes) → escaped s ≡ 0 → escapes s ≡ s
+unfolding escapes escaped
+escapes-plain [] e = refl
+escapes-plain (c ∷ s) e = by (isEscaped c) refl (escapes-plain s) e
+  where
+    by : (b : Bool) → isEscaped c ≡ b → (escaped s ≡ 0 → escapes s ≡ s) → cond b 1 0 + escaped s ≡ 0
+        → escape c ++ escapes s ≡ c ∷ s
+    by true t f h = absurd (omega arith)
+    by false t f h = rw (escape-plain c t, f (omega arith))
+
+pub escaped-append : (s t : Bytes) → escaped (s ++ t) ≡ escaped s + escaped t
+unfolding escaped
+escaped-append [] t = omega arith
+escaped-append (c ∷ s) t = omega (arith, escaped-append s t)
+
+-- a block more counted, from i to e
+pub escaped-block : (s : Bytes) (i e : ℕ) → i ≤ e
+    → escaped (drop i s) ≡ escaped (take (e - i) (drop i s)) + escaped (drop e s)
+escaped-block s i e h =
+    let d : i + (e - i) ≡ e = omega arith in
+    rw (d) at (rw (drop-drop (e - i) i s) at (rw (take-append-drop (e - i) (drop i s)) at (escaped-append (take (e - i) (drop i s)) (drop (e - i) (drop i s)))))

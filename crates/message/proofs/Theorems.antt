@@ -137,8 +137,13 @@ escape-lacks b h e c = by (isEscaped c) refl
   where
     by : (t : Bool) → isEscaped c ≡ t → has b (escape c) ≡ false
     by true f =
-        rw (escape-escaped c f, ne-eqb 92 b (λ q. omega arith), ne-eqb (48 + c / 64) b (λ q. omega arith),
-            ne-eqb (48 + c / 8 % 8) b (λ q. omega arith), ne-eqb (48 + c % 8) b (λ q. omega arith))
+        rw (
+          escape-escaped c f,
+          ne-eqb 92 b (λ q. omega arith),
+          ne-eqb (48 + c / 64) b (λ q. omega arith),
+          ne-eqb (48 + c / 8 % 8) b (λ q. omega arith),
+          ne-eqb (48 + c % 8) b (λ q. omega arith),
+        )
     by false f =
         rw (escape-plain c f, ne-eqb c b (λ q. let z : _≡_ {A = ℕ} 0 1 = cc (ap isEscaped q) in omega arith))
 

@@ -9,7 +9,7 @@ use Rattle.octets.specs.Octets.{Bytes}
 
 -- the five bytes that a string escapes: NUL, LF, CR, the quotation mark and the backslash
 unfoldable pub isEscaped : ℕ → Bool
-isEscaped c = eqb c 0 || (eqb c 10 || (eqb c 13 || (eqb c 34 || eqb c 92)))
+isEscaped c = eqb c 0 || eqb c 10 || eqb c 13 || eqb c 34 || eqb c 92
 
 -- a byte as a string has it: itself, or a backslash and its three octal digits
 unfoldable pub escape : ℕ → Bytes

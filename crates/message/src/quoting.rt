@@ -11,14 +11,22 @@ ghost use Rattle.message.specs.Post.{Writes};
 pub fn is_escaped(c: u8) -> bool
     ensures { λ r. ⌜ r ≡ isEscaped c ⌝ }
 {
-    match c {
-        0 => true,
-        10 => true,
-        13 => true,
-        34 => true,
-        92 => true,
-        _ => false,
+    (c == 0) | (c == 10) | (c == 13) | (c == 34) | (c == 92)
+}
+
+// How many bytes of a short s a string escapes. The count is a byte, so that the loop runs over
+// many bytes at a time.
+pub fn escaped_in(s: &[u8]) -> u8
+    requires { ⌜ length (now s) ≤ 128 ⌝ }
+    ensures { λ r. ⌜ r ≡ escaped (now (s .entry)) ⌝ }
+{
+    let mut n: u8 = 0;
+    let mut i = 0;
+    while i < s.len() {
+        n += is_escaped(s[i]) as u8;
+        i += 1;
     }
+    n
 }
 
 // How many bytes of s a string escapes.
@@ -28,10 +36,9 @@ pub fn escaped_count(s: &[u8]) -> usize
     let mut n: usize = 0;
     let mut i = 0;
     while i < s.len() {
-        if is_escaped(s[i]) {
-            n += 1;
-        }
-        i += 1;
+        let e = i + octets::min(s.len() - i, 128);
+        n += escaped_in(&s[i..e]) as usize;
+        i = e;
     }
     n
 }
@@ -74,7 +81,7 @@ pub fn put_char(out: &mut [u8], at: usize, c: u8) -> usize
     }
 }
 
-// Writes the bytes of s as a string has them, at `at`, and gives the place after them.
+// Writes the bytes of s as a string has them, byte by byte, at `at`, and gives the place after them.
 pub fn put_escaped(out: &mut [u8], at: usize, s: &[u8]) -> usize
     requires { ⌜ at + length (escapes (now s)) ≤ length (now out) ⌝ }
     ensures { λ r. ⌜ Writes (escapes (now (s .entry))) (now (out .entry)) at r (now (out .exit)) ⌝ }
@@ -88,6 +95,19 @@ pub fn put_escaped(out: &mut [u8], at: usize, s: &[u8]) -> usize
     to
 }
 
+// Writes the bytes of s as a string has them, at `at`, and gives the place after them. Where none is
+// escaped, that is a copy.
+pub fn put_bytes(out: &mut [u8], at: usize, s: &[u8]) -> usize
+    requires { ⌜ at + length (escapes (now s)) ≤ length (now out) ⌝ }
+    ensures { λ r. ⌜ Writes (escapes (now (s .entry))) (now (out .entry)) at r (now (out .exit)) ⌝ }
+{
+    if escaped_count(s) == 0 {
+        octets::copy(out, at, s);
+        return at + s.len();
+    }
+    put_escaped(out, at, s)
+}
+
 // Writes a space and s in quotation marks, at `at`, and gives the place after them.
 pub fn put_field(out: &mut [u8], at: usize, s: &[u8]) -> usize
     requires { ⌜ at + length (field (now s)) ≤ length (now out) ⌝ }
@@ -95,7 +115,7 @@ pub fn put_field(out: &mut [u8], at: usize, s: &[u8]) -> usize
 {
     out[at] = 32;
     out[at + 1] = 34;
-    let to = put_escaped(out, at + 2, s);
+    let to = put_bytes(out, at + 2, s);
     out[to] = 34;
     to + 1
 }

@@ -1,13 +1,11 @@
 -- The invariant: n bytes are escaped among the first i.
 use borrow.Author.Needs.{needs}
 use native.Mathlib.Omega.{arith}
-use mathlib.Core.Path.{_≡_, refl, sym, _∙_}
-use mathlib.Core.Bool.{true, false}
-use mathlib.Core.Logic.{⊎-elim}
+use mathlib.Core.Path.{_≡_}
 use Prim.Native.Nat.{_+_, _-_, _≤_}
-use lib.ListN.{length, drop, drop-of-length-le}
+use lib.ListN.{length, drop, take, length-take, length-drop}
 use Rattle.message.specs.Quoting.{escaped}
-use Rattle.message.proofs.Laws.{escaped-drop, escaped-drop-all}
+use Rattle.message.proofs.Laws.{escaped-block, escaped-drop-all, escaped-most}
 use Rattle.message.proofs.quoting.escaped_count.Statement.{statement}
 use Rattle.message.proofs.quoting.escaped_count.Tie as tie
 
@@ -20,16 +18,27 @@ abbrev μ-loop : tie.MeasureT-loop
 loop-holds : tie.Need-loop-holds Inv-loop μ-loop
 loop-holds c = (omega arith, omega arith, omega arith)
 
-loop-again : tie.Need-loop-again Inv-loop μ-loop
-loop-again c =
+escaped-in-requires : tie.Need-escaped-in-requires Inv-loop μ-loop
+escaped-in-requires c κs = rw (length-take, length-drop) (omega arith)
+
+-- what the block adds to the count, and that it is at most its length
+block : (c : tie.After-escaped-in Inv-loop μ-loop)
+    → (escaped (drop (c .before .before .before .before .loop .i) (c .before .before .before .before .before .before .args .s .now))
+    ≡ c .escaped-in .result + escaped (drop (c .before .before .before .before .loop .i + c .before .before .min .result) (c .before .before .before .before .before .before .args .s .now)))
+    × (c .escaped-in .result ≤ c .before .before .min .result)
+block c =
     let s = c .before .before .before .before .before .before .args .s .now in
     let i = c .before .before .before .before .loop .i in
-    let h = c .before .before .before .loop-test .taken in
-    let e = c .before .is-escaped .ensures in
-    ⊎-elim
-    (λ w. (omega arith, omega (arith, escaped-drop s i h true (sym e ∙ w .0 .taken)), omega arith))
-    (λ w. (omega arith, omega (arith, escaped-drop s i h false (sym e ∙ w .0 .left)), omega arith))
-    (c .if1 .came)
+    let e = i + c .before .before .min .result in
+    let q = c .escaped-in .ensures in
+    let l = length-take (e - i) (drop i s) in
+    (omega (arith, escaped-block s i e (omega arith)), omega (arith, escaped-most (take (e - i) (drop i s))))
+
+add-n : tie.Need-add-n Inv-loop μ-loop
+add-n c = omega (arith, block c)
+
+loop-again : tie.Need-loop-again Inv-loop μ-loop
+loop-again c = (omega arith, omega (arith, block c), omega (arith, block c))
 
 returns : tie.Need-returns Inv-loop μ-loop
 returns c = omega (arith, escaped-drop-all (c .before .before .before .args .s .now) (c .before .loop .i) (c .loop-test .left))
@@ -46,5 +55,10 @@ escaped-count-spec =
     (λ c. search needs)
     (λ c. search needs)
     (λ c. search needs)
+    (λ c. search needs)
+    escaped-in-requires
+    (λ c. search needs)
+    add-n
+    (λ c. omega arith)
     loop-again
     returns)

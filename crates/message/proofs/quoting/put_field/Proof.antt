@@ -15,8 +15,8 @@ room c = omega (arith, length-field (c .args .s .now))
 
 -- the stores and the call keep the length
 kept : (c : tie.After-slice-known2)
-    → length (c .before .before .put-escaped .last .0) ≡ length (c .before .before .before .before .before .before .args .out .now)
-kept c = length-writes (c .before .before .put-escaped .ensures) ∙ simp length-set
+    → length (c .before .before .put-bytes .last .0) ≡ length (c .before .before .before .before .before .before .args .out .now)
+kept c = length-writes (c .before .before .put-bytes .ensures) ∙ simp length-set
 
 slice-write-out : tie.Need-slice-write-out
 slice-write-out c = let r = room (c .before .before) in omega arith
@@ -27,22 +27,22 @@ add-out c = let r = room (c .before .before) in omega arith
 slice-write-out-2 : tie.Need-slice-write-out-2
 slice-write-out-2 c = let r = room (c .before .before) in simp length-set (omega arith)
 
-add-put-escaped : tie.Need-add-put-escaped
-add-put-escaped c = let r = room (c .before .before .before) in omega arith
+add-put-bytes : tie.Need-add-put-bytes
+add-put-bytes c = let r = room (c .before .before .before) in omega arith
 
-put-escaped-requires : tie.Need-put-escaped-requires
-put-escaped-requires c κs = let r = room (c .before .before .before) in simp length-set (omega arith)
+put-bytes-requires : tie.Need-put-bytes-requires
+put-bytes-requires c κs = let r = room (c .before .before .before) in simp length-set (omega arith)
 
 slice-write-out-3 : tie.Need-slice-write-out-3
 slice-write-out-3 c =
     let r = room (c .before .before .before .before .before .before) in
     let k = kept c in
-    omega (arith, c .before .before .put-escaped .ensures .past)
+    omega (arith, c .before .before .put-bytes .ensures .past)
 
 add-result : tie.Need-add-result
 add-result c =
     let r = room (c .before .before .before .before .before .before) in
-    omega (arith, c .before .before .put-escaped .ensures .past, c .before .before .before .before .before .before .good)
+    omega (arith, c .before .before .put-bytes .ensures .past, c .before .before .before .before .before .before .good)
 
 same-length : tie.Need-same-length
 same-length c = simp length-set (kept c)
@@ -51,7 +51,7 @@ returns : tie.Need-returns
 unfolding quote
 returns c =
     writes-append (writes-two 32 34 (c .before .before .before .before .before .before .args .out .now) (c .before .before .before .before .before .before .args .at))
-    (writes-append (c .before .before .put-escaped .ensures) (writes-one 34 _ _))
+    (writes-append (c .before .before .put-bytes .ensures) (writes-one 34 _ _))
 
 pub put-field-spec : {M : Type 1} → statement M
 put-field-spec =
@@ -60,8 +60,8 @@ put-field-spec =
     slice-write-out
     add-out
     slice-write-out-2
-    add-put-escaped
-    put-escaped-requires
+    add-put-bytes
+    put-bytes-requires
     slice-write-out-3
     add-result
     same-length

@@ -19,7 +19,19 @@ use Rattle.message.specs.declared.Written.the-variants.{Done, Short, Too
 use Rattle.protocol.specs.Terms.{valueTail, messagePayload}
 use Rattle.message.specs.declared.Message.the-variants.{Version, Info, Pong, Error}
 use Rattle.message.specs.Quoting.{quote, decimal}
-use Rattle.message.specs.Forms.{Row, row, field, keyOf, valueOf, valueField, numberFields, fields, ending, line, form}
+use Rattle.message.specs.Forms.{
+  Row,
+  row,
+  field,
+  keyOf,
+  valueOf,
+  valueField,
+  numberFields,
+  fields,
+  ending,
+  line,
+  form,
+}
 use Rattle.message.specs.Writing.{said, lengthWith, outcome, answered}
 use Rattle.message.proofs.Laws.{length-field-most, length-decimal}
 

@@ -8,7 +8,18 @@ use native.Mathlib.Numerals.{add-one}
 use native.Mathlib.Omega.{arith}
 use mir.Val.{boolByte}
 use lib.Dec.{eqb, ltb, leb}
-use lib.ListN.{length, set, getD, drop, take, length-append, length-drop, length-set, take-append-drop, drop-of-length-le}
+use lib.ListN.{
+  length,
+  set,
+  getD,
+  drop,
+  take,
+  length-append,
+  length-drop,
+  length-set,
+  take-append-drop,
+  drop-of-length-le,
+}
 use lib.Seq.{take-all, sets, length-sets, take-suc, take-length, drop-cons, drop-drop}
 use borrow.Author.Tests.{eqb-true, eqb-false, eq-eqb, ne-eqb, lt-ltb, le-ltb, ltb-true}
 use Rattle.octets.specs.Octets.{Bytes, hasNul, firstNul}
@@ -25,7 +36,8 @@ writes-none out at = record { held = refl; past = omega arith }
 pub writes-one : (x : ℕ) (out : Bytes) (at : ℕ) → Writes (x ∷ []) out at (at + 1) (set out at x)
 writes-one x out at = record { held = refl; past = refl }
 
-pub writes-two : (x y : ℕ) (out : Bytes) (at : ℕ) → Writes (x ∷ y ∷ []) out at (at + 2) (set (set out at x) (at + 1) y)
+pub writes-two : (x y : ℕ) (out : Bytes) (at : ℕ) → Writes (x ∷ y ∷ []) out at (at + 2)
+    (set (set out at x) (at + 1) y)
 writes-two x y out at = record { held = rw add-one; past = refl }
 
 pub writes-sets : {v out out′ : Bytes} {at : ℕ} → out′ ≡ sets out at v → Writes v out at (at + length v) out′
@@ -43,7 +55,8 @@ length-writes {v} {out} {out′} {at} {r} a = ap length (a .held) ∙ length-set
 
 -- ---- escapes
 
-pub escape-escaped : (c : ℕ) → isEscaped c ≡ true → escape c ≡ 92 ∷ (48 + c / 64) ∷ (48 + c / 8 % 8) ∷ (48 + c % 8) ∷ []
+pub escape-escaped : (c : ℕ) → isEscaped c ≡ true → escape c ≡ 92 ∷ (48 + c / 64) ∷ (48 + c / 8 % 8) ∷
+    (48 + c % 8) ∷ []
 unfolding escape
 escape-escaped c e = rw e
 
@@ -70,7 +83,8 @@ length-escapes-take s i =
     rw (e, length-append) (omega arith)
 
 -- a turn of writing a string's bytes: one more byte is written, and it has room
-module _ {out out′ : Bytes} {at q : ℕ} (s : Bytes) (i : ℕ) (h : i < length s) (a : Writes (escapes (take i s)) out at q out′) where
+module _ {out out′ : Bytes} {at q : ℕ} (s : Bytes) (i : ℕ) (h : i < length s)
+    (a : Writes (escapes (take i s)) out at q out′) where
   pub writes-escape : {out″ : Bytes} {r : ℕ} → Writes (escape (getD s i 0)) out′ q r out″
       → Writes (escapes (take (i + 1) s)) out at r out″
   writes-escape b = rw (escapes-take-suc s i h) (writes-append a b)
@@ -156,4 +170,6 @@ pub escaped-block : (s : Bytes) (i e : ℕ) → i ≤ e
     → escaped (drop i s) ≡ escaped (take (e - i) (drop i s)) + escaped (drop e s)
 escaped-block s i e h =
     let d : i + (e - i) ≡ e = omega arith in
-    rw (d) at (rw (drop-drop (e - i) i s) at (rw (take-append-drop (e - i) (drop i s)) at (escaped-append (take (e - i) (drop i s)) (drop (e - i) (drop i s)))))
+    rw (d) at (rw (drop-drop (e - i) i s) at
+    (rw (take-append-drop (e - i) (drop i s)) at
+    (escaped-append (take (e - i) (drop i s)) (drop (e - i) (drop i s)))))

@@ -1,5 +1,5 @@
--- What holds of every message by the definitions: how long it is at most, that it is never empty, that an ERROR fits the
--- bytes kept back for it, that a text line holds its end once, and that a body is the message it was made of.
+-- What holds of every message by the definitions: how long it is at most, that it is never empty, that an ERROR fits
+-- the bytes kept back for it, that a string holds no line end, and that a body is the message it was made of.
 use mathlib.Core.Path.{_≡_, refl, sym, ap, _∙_}
 use mathlib.Core.List.{List, [], _∷_, _++_, append-nil}
 use mathlib.Core.Bool.{Bool, true, false, cond, _||_, _&&_}
@@ -9,21 +9,21 @@ use native.Mathlib.Nat.{add-zero}
 use native.Mathlib.Omega.{arith}
 use lib.Dec.{eqb, ltb, leb}
 use lib.ListN.{length, take, drop, length-append}
-use lib.Seq.{take-length, take-append-seam, drop-append-add}
-use borrow.Author.Tests.{eqb-true, eqb-false, ne-eqb, leb-true}
+use lib.Seq.{sets, sets-eq, take-length, take-append-seam, drop-append-add}
+use borrow.Author.Tests.{eqb-true, eqb-false, ne-eqb, leb-true, leb-false}
 use Rattle.octets.specs.Octets.{Bytes, ascii, hasNul, firstNul}
 use Rattle.protocol.specs.declared.Kind.{Kind}
 use Rattle.protocol.specs.declared.Kind.the-variants.{Packets, Stream, Framed, Text}
 use Rattle.protocol.specs.declared.Refusal.{Refusal}
 use Rattle.protocol.specs.declared.Refusal.the-variants.{Unknown, Parameter, Room, State}
-use Rattle.protocol.specs.Terms.{info, error, valueTail, reason, messagePayload}
+use Rattle.protocol.specs.Terms.{Message, info, error, valueTail, reason, messageId, messagePayload}
 use Rattle.message.specs.declared.Message.the-variants.{Info}
 use Rattle.message.specs.Quoting.{isEscaped, escape, escapes, quote, decimal, has}
 use Rattle.message.specs.Forms.{Row, row, table, rowIn, rowOf, field, valueOf, valueField, numberFields, fields}
 use Rattle.message.specs.Forms.{ending, line, packet, frame, form, encoded, written}
-use Rattle.message.specs.Writing.{said}
+use Rattle.message.specs.Writing.{said, lengthWith, writtenLength, Outcome, outcome}
 use Rattle.message.proofs.Laws.{escape-escaped, escape-plain}
-use Rattle.message.proofs.FormLaws.{length-fields, length-ending, length-line}
+use Rattle.message.proofs.FormLaws.{length-fields, length-ending, length-line, lengthWith-fits, outcome-done}
 
 -- ---- rows
 
@@ -94,6 +94,32 @@ length-encoded-least Text i p =
     let r = rowIn table i in
     rw (length-line (r .id) (r .word) (r .shape) p) (omega (arith, length-ending (r .id)))
 
+-- ---- what a writer answers
+
+sets-front : (e o : Bytes) → length e ≤ length o → sets o 0 e ≡ e ++ drop (length e) o
+sets-front e o k =
+    let z : 0 + length e ≡ length e = omega arith in
+    rw z at (sets-eq e o 0 (omega arith))
+
+module _ (p e o : Bytes) (h : length p ≤ 65535) (k : length e ≤ length o) where
+  -- a written message stands at the front of the slice, and what is behind it is as it was
+  pub out-done : outcome p e o .out ≡ e ++ drop (length e) o
+  out-done = ap (λ (r : Outcome). r .out) (outcome-done p e o h k) ∙ sets-front e o k
+
+  -- the length that is given beside it is the one that is computed beforehand
+  pub count-done : outcome p e o .count ≡ lengthWith p e
+  count-done = ap (λ (r : Outcome). r .count) (outcome-done p e o h k) ∙ sym (lengthWith-fits p e h)
+
+-- a length of 0 says that the payload is too long
+pub writtenLength-zero : (k : Kind) (m : Message) → writtenLength k m ≡ 0 → 65535 < length (messagePayload m)
+unfolding written lengthWith
+writtenLength-zero k m z = by (leb (length (messagePayload m)) 65535) refl z
+  where
+    by : (b : Bool) → leb (length (messagePayload m)) 65535 ≡ b → cond b (length (written k m)) 0 ≡ 0
+        → 65535 < length (messagePayload m)
+    by true e z = absurd (omega (arith, length-encoded-least k (messageId m) (messagePayload m)))
+    by false e z = leb-false _ _ e
+
 -- ---- ERROR
 
 reason-short : (r : Refusal) → length (reason r) ≤ 15
@@ -104,8 +130,8 @@ reason-short Room = omega arith
 reason-short State = omega arith
 
 error-line : (r : Refusal) → length (written Text (error r)) ≤ 29
-unfolding ascii reason messagePayload isEscaped escape escapes quote decimal rowIn rowOf numberFields fields ending line
-    form encoded written
+unfolding ascii reason messagePayload isEscaped escape escapes quote decimal rowIn rowOf numberFields fields ending
+    line form encoded written
 error-line Unknown = omega arith
 error-line Parameter = omega arith
 error-line Room = omega arith

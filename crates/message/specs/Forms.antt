@@ -1,6 +1,6 @@
--- The three forms of a message (document 01, "Messages written"; document 000, "Binary form of messages" and "Text form
--- of messages"). A message is an ID and a payload in binary form, so each form is stated once for the eight commands and
--- the four server messages.
+-- The three forms of a message (document 01, "Messages written"; document 000, "Binary form of messages" and "Text
+-- form of messages"). A message is an ID and a payload in binary form, so each form is stated once for the eight
+-- commands and the four server messages.
 -- A kind says which form: packets, frames or text. A stream whose kind is not fixed yet has no form of its own, and
 -- nothing is written to it; the definition gives it frames, so that it is total.
 -- An ID in no row of the table is no message: as a text line it has no word and no fields.

@@ -1,5 +1,5 @@
--- The strings and numbers of a text line (document 01, "Messages written"; document 000, "String quoting"). Every string
--- stands in quotation marks, also where document 000 would let it go without.
+-- The strings and numbers of a text line (document 01, "Messages written"; document 000, "String quoting"). Every
+-- string stands in quotation marks, also where document 000 would let it go without.
 -- Numbers: 10 LF, 13 CR, 32 space, 34 quotation mark, 48 the digit 0, 92 backslash.
 use mathlib.Core.List.{List, [], _∷_, _++_}
 use mathlib.Core.Bool.{Bool, false, cond, _||_}

@@ -1,4 +1,6 @@
-// The server's messages as bytes, for clients of each kind: how long a message is, and the message written to a lent slice.
+// The server's messages as bytes, for clients of each kind: how long a message is, and the message
+// written to a lent slice. A message is an ID, the word of its text line, the shape of its fields
+// and a payload in binary form.
 ghost use mathlib.Core.Path.{_≡_};
 ghost use Prim.Native.Nat.{ℕ, _+_, _≤_, _/_, _%_};
 ghost use mathlib.Core.List.{[], _∷_};
@@ -6,7 +8,8 @@ ghost use lib.ListN.{length};
 ghost use lib.Seq.{sets};
 ghost use Rattle.protocol.specs.Terms;
 ghost use Rattle.message.specs.Forms.{row, packet, frame, form};
-ghost use Rattle.message.specs.Writing.{said, lengthWith, writtenLength, answered, outcome, writing};
+ghost use Rattle.message.specs.Writing.{said, lengthWith, writtenLength};
+ghost use Rattle.message.specs.Writing.{answered, outcome, writing};
 use protocol::Kind;
 use protocol::Refusal;
 
@@ -25,8 +28,8 @@ pub enum Shape {
     Bare,
 }
 
-// A message of the server. What an INFO and a PONG say beside this is a body: for an INFO a key, or a key, NUL and a value;
-// for a PONG an identifier. The others have no use for the body.
+// A message of the server. A body goes with it: for an INFO a key, or a key, NUL and a value; for a
+// PONG an identifier. The others have no use for it.
 pub enum Message {
     Version,
     Info,
@@ -56,10 +59,12 @@ pub fn written_length(kind: Kind, message: Message, body: &[u8]) -> usize
     }
 }
 
-// Writes a message at the start of out and gives its length. The answer is TooLong where the payload passes 65,535 bytes,
-// and Short where out is shorter than the message; both leave out as it was.
+// Writes a message at the start of out, leaves the rest of out as it was, and gives the message's
+// length. The answer is TooLong where the payload passes 65,535 bytes, else Short where out is
+// shorter than the message; both leave out as it was.
 pub fn write(kind: Kind, message: Message, body: &[u8], out: &mut [u8]) -> Written
-    ensures { λ r. ⌜ answered r (now (out .exit)) ≡ writing kind (said message (now (body .entry))) (now (out .entry)) ⌝ }
+    ensures { λ r. ⌜ answered r (now (out .exit))
+        ≡ writing kind (said message (now (body .entry))) (now (out .entry)) ⌝ }
 {
     match message {
         Message::Version => encode(kind, 128, b"VERSION", Shape::Numbered, b"\x00", out),
@@ -95,7 +100,8 @@ fn error_length(kind: Kind, refusal: Refusal) -> usize
 
 // Writes an ERROR as `write` does.
 fn write_error(kind: Kind, refusal: Refusal, out: &mut [u8]) -> Written
-    ensures { λ r. ⌜ answered r (now (out .exit)) ≡ writing kind (Terms.error refusal) (now (out .entry)) ⌝ }
+    ensures { λ r. ⌜ answered r (now (out .exit))
+        ≡ writing kind (Terms.error refusal) (now (out .entry)) ⌝ }
 {
     match refusal {
         Refusal::Unknown => encode(
@@ -121,7 +127,8 @@ fn write_error(kind: Kind, refusal: Refusal, out: &mut [u8]) -> Written
 
 // How many bytes the message of an ID and a payload is, or 0 where the payload passes 65,535 bytes.
 fn message_length(kind: Kind, id: u8, word: &[u8], shape: Shape, payload: &[u8]) -> usize
-    ensures { λ r. ⌜ r ≡ lengthWith (now (payload .entry)) (form kind (row id (now (word .entry)) shape) (now (payload .entry))) ⌝ }
+    ensures { λ r. ⌜ r ≡ lengthWith (now (payload .entry))
+        (form kind (row id (now (word .entry)) shape) (now (payload .entry))) ⌝ }
 {
     if 65535 < payload.len() {
         return 0;
@@ -137,7 +144,8 @@ fn message_length(kind: Kind, id: u8, word: &[u8], shape: Shape, payload: &[u8])
 // Writes the message of an ID and a payload at the start of out, as `write` does.
 fn encode(kind: Kind, id: u8, word: &[u8], shape: Shape, payload: &[u8], out: &mut [u8]) -> Written
     ensures { λ r. ⌜ answered r (now (out .exit))
-        ≡ outcome (now (payload .entry)) (form kind (row id (now (word .entry)) shape) (now (payload .entry))) (now (out .entry)) ⌝ }
+        ≡ outcome (now (payload .entry))
+        (form kind (row id (now (word .entry)) shape) (now (payload .entry))) (now (out .entry)) ⌝ }
 {
     if 65535 < payload.len() {
         return Written::TooLong;
@@ -152,8 +160,10 @@ fn encode(kind: Kind, id: u8, word: &[u8], shape: Shape, payload: &[u8], out: &m
 
 // Writes the message of an ID and a payload at the start of out, which has room for it.
 fn put_message(kind: Kind, id: u8, word: &[u8], shape: Shape, payload: &[u8], out: &mut [u8])
-    requires { ⌜ (length (now payload) ≤ 65535) × (length (form kind (row id (now word) shape) (now payload)) ≤ length (now out)) ⌝ }
-    ensures { λ _. ⌜ now (out .exit) ≡ sets (now (out .entry)) 0 (form kind (row id (now (word .entry)) shape) (now (payload .entry))) ⌝ }
+    requires { ⌜ (length (now payload) ≤ 65535)
+        × (length (form kind (row id (now word) shape) (now payload)) ≤ length (now out)) ⌝ }
+    ensures { λ _. ⌜ now (out .exit) ≡ sets (now (out .entry)) 0
+        (form kind (row id (now (word .entry)) shape) (now (payload .entry))) ⌝ }
 {
     match kind {
         Kind::Packets => put_packet(id, payload, out),
@@ -165,7 +175,8 @@ fn put_message(kind: Kind, id: u8, word: &[u8], shape: Shape, payload: &[u8], ou
 
 // Writes a packet at the start of out, as far as out goes.
 fn put_packet(id: u8, payload: &[u8], out: &mut [u8])
-    ensures { λ _. ⌜ now (out .exit) ≡ sets (now (out .entry)) 0 (packet id (now (payload .entry))) ⌝ }
+    ensures { λ _. ⌜ now (out .exit) ≡ sets (now (out .entry)) 0
+        (packet id (now (payload .entry))) ⌝ }
 {
     octets::put(out, 0, id);
     octets::copy(out, 1, payload);
@@ -174,7 +185,8 @@ fn put_packet(id: u8, payload: &[u8], out: &mut [u8])
 // Writes a frame at the start of out, as far as out goes.
 fn put_frame(id: u8, payload: &[u8], out: &mut [u8])
     requires { ⌜ length (now payload) ≤ 65535 ⌝ }
-    ensures { λ _. ⌜ now (out .exit) ≡ sets (now (out .entry)) 0 (frame id (now (payload .entry))) ⌝ }
+    ensures { λ _. ⌜ now (out .exit) ≡ sets (now (out .entry)) 0
+        (frame id (now (payload .entry))) ⌝ }
 {
     let n = payload.len();
     octets::put(out, 0, id);

@@ -59,7 +59,8 @@ pub fn fields_length(shape: Shape, payload: &[u8]) -> usize
 // Writes the fields of a number and a text at `at`, and gives the place after them.
 fn put_numbered(out: &mut [u8], at: usize, n: u8, text: &[u8]) -> usize
     requires { ⌜ at + length (numberFields (n ∷ now text)) ≤ length (now out) ⌝ }
-    ensures { λ r. ⌜ Writes (numberFields (n ∷ now (text .entry))) (now (out .entry)) at r (now (out .exit)) ⌝ }
+    ensures { λ r. ⌜ Writes (numberFields (n ∷ now (text .entry)))
+        (now (out .entry)) at r (now (out .exit)) ⌝ }
 {
     let to = quoting::put_number(out, at, n);
     quoting::put_field(out, to, text)
@@ -68,7 +69,8 @@ fn put_numbered(out: &mut [u8], at: usize, n: u8, text: &[u8]) -> usize
 // Writes the fields of a key and a value at `at`, and gives the place after them.
 fn put_valued(out: &mut [u8], at: usize, key: &[u8], value: &[u8]) -> usize
     requires { ⌜ at + length (field (now key) ++ field (now value)) ≤ length (now out) ⌝ }
-    ensures { λ r. ⌜ Writes (field (now (key .entry)) ++ field (now (value .entry))) (now (out .entry)) at r (now (out .exit)) ⌝ }
+    ensures { λ r. ⌜ Writes (field (now (key .entry)) ++ field (now (value .entry)))
+        (now (out .entry)) at r (now (out .exit)) ⌝ }
 {
     let to = quoting::put_field(out, at, key);
     quoting::put_field(out, to, value)
@@ -78,7 +80,8 @@ fn put_valued(out: &mut [u8], at: usize, key: &[u8], value: &[u8]) -> usize
 // place after them.
 fn put_keyed(out: &mut [u8], at: usize, payload: &[u8]) -> usize
     requires { ⌜ at + length (fields Shape.Keyed (now payload)) ≤ length (now out) ⌝ }
-    ensures { λ r. ⌜ Writes (fields Shape.Keyed (now (payload .entry))) (now (out .entry)) at r (now (out .exit)) ⌝ }
+    ensures { λ r. ⌜ Writes (fields Shape.Keyed (now (payload .entry)))
+        (now (out .entry)) at r (now (out .exit)) ⌝ }
 {
     let n = octets::first_nul(payload);
     if n < payload.len() {
@@ -90,7 +93,8 @@ fn put_keyed(out: &mut [u8], at: usize, payload: &[u8]) -> usize
 // Writes the fields of a payload at `at`, and gives the place after them.
 pub fn put_fields(out: &mut [u8], at: usize, shape: Shape, payload: &[u8]) -> usize
     requires { ⌜ at + length (fields shape (now payload)) ≤ length (now out) ⌝ }
-    ensures { λ r. ⌜ Writes (fields shape (now (payload .entry))) (now (out .entry)) at r (now (out .exit)) ⌝ }
+    ensures { λ r. ⌜ Writes (fields shape (now (payload .entry)))
+        (now (out .entry)) at r (now (out .exit)) ⌝ }
 {
     match shape {
         Shape::Numbered => {
@@ -135,7 +139,8 @@ pub fn line_length(id: u8, word: &[u8], shape: Shape, payload: &[u8]) -> usize
 pub fn put_line(out: &mut [u8], id: u8, word: &[u8], shape: Shape, payload: &[u8])
     requires { ⌜ length (line (row id (now word) shape) (now payload)) ≤ length (now out) ⌝ }
     ensures { λ _. ⌜ now (out .exit)
-        ≡ sets (now (out .entry)) 0 (line (row id (now (word .entry)) shape) (now (payload .entry))) ⌝ }
+        ≡ sets (now (out .entry)) 0
+        (line (row id (now (word .entry)) shape) (now (payload .entry))) ⌝ }
 {
     octets::copy(out, 0, word);
     let to = put_fields(out, word.len(), shape, payload);

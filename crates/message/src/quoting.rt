@@ -81,7 +81,8 @@ pub fn put_char(out: &mut [u8], at: usize, c: u8) -> usize
     }
 }
 
-// Writes the bytes of s as a string has them, byte by byte, at `at`, and gives the place after them.
+// Writes the bytes of s as a string has them, byte by byte, at `at`, and gives the place after
+// them.
 pub fn put_escaped(out: &mut [u8], at: usize, s: &[u8]) -> usize
     requires { ⌜ at + length (escapes (now s)) ≤ length (now out) ⌝ }
     ensures { λ r. ⌜ Writes (escapes (now (s .entry))) (now (out .entry)) at r (now (out .exit)) ⌝ }
@@ -95,8 +96,8 @@ pub fn put_escaped(out: &mut [u8], at: usize, s: &[u8]) -> usize
     to
 }
 
-// Writes the bytes of s as a string has them, at `at`, and gives the place after them. Where none is
-// escaped, that is a copy.
+// Writes the bytes of s as a string has them, at `at`, and gives the place after them. Where none
+// is escaped, that is a copy.
 pub fn put_bytes(out: &mut [u8], at: usize, s: &[u8]) -> usize
     requires { ⌜ at + length (escapes (now s)) ≤ length (now out) ⌝ }
     ensures { λ r. ⌜ Writes (escapes (now (s .entry))) (now (out .entry)) at r (now (out .exit)) ⌝ }

@@ -13,9 +13,11 @@ abbrev bytes : (c : tie.Start) → Bytes
 bytes c = let A = c .args in form (A .kind) (row (A .id) (A .word .now) (A .shape)) (A .payload .now)
 
 -- the length that was computed is theirs
-length-bytes : (c : tie.After-message-length) → c .message-length .result ≡ length (bytes (c .before .before .before .before .before))
+length-bytes : (c : tie.After-message-length) → c .message-length .result ≡ length
+    (bytes (c .before .before .before .before .before))
 length-bytes c =
-    c .message-length .ensures ∙ lengthWith-fits (c .before .before .before .before .before .args .payload .now) _ (c .before .if1 .left)
+    c .message-length .ensures ∙ lengthWith-fits (c .before .before .before .before .before .args .payload .now) _
+    (c .before .if1 .left)
 
 returns : tie.Need-returns
 returns c = sym (outcome-long (c .before .before .before .before .args .payload .now) _ _ (c .if1 .taken))
@@ -30,7 +32,11 @@ put-message-requires c κs = (c .before .before .before .if1 .left, omega (arith
 returns-3 : tie.Need-returns-3
 returns-3 c =
     let l = length-bytes (c .before .before .before .before .before) in
-    let d = outcome-done (c .before .before .before .before .before .before .before .before .before .before .args .payload .now) (bytes (c .before .before .before .before .before .before .before .before .before .before)) (c .before .before .before .before .before .before .before .before .before .before .args .out .now) (c .before .before .before .before .before .before .if1 .left) (omega (arith, l)) in
+    let d = outcome-done
+    (c .before .before .before .before .before .before .before .before .before .before .args .payload .now)
+    (bytes (c .before .before .before .before .before .before .before .before .before .before))
+    (c .before .before .before .before .before .before .before .before .before .before .args .out .now)
+    (c .before .before .before .before .before .before .if1 .left) (omega (arith, l)) in
     cc (d, l, c .before .before .put-message .ensures)
 
 pub encode-spec : {M : Type 1} → statement M

@@ -13,7 +13,9 @@ returns c = rw (c .before .before .before .enum-told .given .1) (c .message-leng
 
 returns-2 : tie.Need-returns-2
 unfolding ascii said messagePayload rowIn rowOf encoded written
-returns-2 c = rw (c .before .before .enum-told2 .given .1, key-value (c .before .before .before .before .before .args .body .now)) (c .message-length2 .ensures)
+returns-2 c = rw
+    (c .before .before .enum-told2 .given .1, key-value (c .before .before .before .before .before .args .body .now))
+    (c .message-length2 .ensures)
 
 returns-3 : tie.Need-returns-3
 unfolding ascii said messagePayload rowIn rowOf encoded written

@@ -10,7 +10,8 @@ use Rattle.message.proofs.line.fields_length.Tie as tie
 
 returns : tie.Need-returns
 unfolding fields numberFields
-returns c = rw (c .before .enum-told .given .1, empty (c .before .before .before .before .args .payload .now) (c .if1 .taken))
+returns c = rw
+    (c .before .enum-told .given .1, empty (c .before .before .before .before .args .payload .now) (c .if1 .taken))
 
 numbered-length-requires : tie.Need-numbered-length-requires
 numbered-length-requires c κs =

@@ -11,7 +11,8 @@ use Rattle.message.proofs.line.put_numbered.Tie as tie
 
 -- the room for the number and the text
 room : (c : tie.Start)
-    → c .args .at + (length (32 ∷ decimal (c .args .n)) + length (field (c .args .text .now))) ≤ length (c .args .out .now)
+    → c .args .at + (length (32 ∷ decimal (c .args .n)) + length (field (c .args .text .now))) ≤ length
+    (c .args .out .now)
 unfolding numberFields
 room c = omega (arith, length-append (32 ∷ decimal (c .args .n)) (field (c .args .text .now)), c .pre)
 
@@ -26,7 +27,8 @@ put-field-requires c κs =
 
 returns : tie.Need-returns
 unfolding numberFields
-returns c = writes-append (c .before .before .before .before .before .before .put-number .ensures) (c .before .before .put-field .ensures)
+returns c = writes-append (c .before .before .before .before .before .before .put-number .ensures)
+    (c .before .before .put-field .ensures)
 
 pub put-numbered-spec : {M : Type 1} → statement M
 put-numbered-spec =

@@ -9,7 +9,8 @@ use Rattle.message.proofs.line.put_valued.Tie as tie
 
 -- the room for both fields
 room : (c : tie.Start)
-    → c .args .at + (length (field (c .args .key .now)) + length (field (c .args .value .now))) ≤ length (c .args .out .now)
+    → c .args .at + (length (field (c .args .key .now)) + length (field (c .args .value .now))) ≤ length
+    (c .args .out .now)
 room c = omega (arith, length-append (field (c .args .key .now)) (field (c .args .value .now)))
 
 put-field-requires : tie.Need-put-field-requires
@@ -22,7 +23,8 @@ put-field-requires-2 c κs =
     omega (arith, length-writes (F .ensures), F .ensures .past)
 
 returns : tie.Need-returns
-returns c = writes-append (c .before .before .before .before .before .before .put-field .ensures) (c .before .before .put-field2 .ensures)
+returns c = writes-append (c .before .before .before .before .before .before .put-field .ensures)
+    (c .before .before .put-field2 .ensures)
 
 pub put-valued-spec : {M : Type 1} → statement M
 put-valued-spec =

@@ -9,12 +9,14 @@ use Rattle.message.proofs.quoting.put_bytes.Statement.{statement}
 use Rattle.message.proofs.quoting.put_bytes.Tie as tie
 
 -- nothing is escaped
-plain : (c : tie.Then1) → escapes (c .before .before .before .before .args .s .now) ≡ c .before .before .before .before .args .s .now
+plain : (c : tie.Then1) → escapes (c .before .before .before .before .args .s .now)
+    ≡ c .before .before .before .before .args .s .now
 plain c = escapes-plain _ (sym (c .before .escaped-count .ensures) ∙ c .if1 .taken)
 
 add-result : tie.Need-add-result
 add-result c =
-    let p = rw (plain (c .before .before .before .before)) at (c .before .before .before .before .before .before .before .before .pre) in
+    let p = rw (plain (c .before .before .before .before)) at
+    (c .before .before .before .before .before .before .before .before .pre) in
     omega (arith, p, c .before .before .before .before .before .before .before .before .good)
 
 returns : tie.Need-returns

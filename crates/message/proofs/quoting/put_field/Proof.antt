@@ -15,7 +15,8 @@ room c = omega (arith, length-field (c .args .s .now))
 
 -- the stores and the call keep the length
 kept : (c : tie.After-slice-known2)
-    → length (c .before .before .put-bytes .last .0) ≡ length (c .before .before .before .before .before .before .args .out .now)
+    → length (c .before .before .put-bytes .last .0) ≡ length
+    (c .before .before .before .before .before .before .args .out .now)
 kept c = length-writes (c .before .before .put-bytes .ensures) ∙ simp length-set
 
 slice-write-out : tie.Need-slice-write-out
@@ -42,7 +43,11 @@ slice-write-out-3 c =
 add-result : tie.Need-add-result
 add-result c =
     let r = room (c .before .before .before .before .before .before) in
-    omega (arith, c .before .before .put-bytes .ensures .past, c .before .before .before .before .before .before .good)
+    omega (
+      arith,
+      c .before .before .put-bytes .ensures .past,
+      c .before .before .before .before .before .before .good,
+    )
 
 same-length : tie.Need-same-length
 same-length c = simp length-set (kept c)
@@ -50,7 +55,9 @@ same-length c = simp length-set (kept c)
 returns : tie.Need-returns
 unfolding quote
 returns c =
-    writes-append (writes-two 32 34 (c .before .before .before .before .before .before .args .out .now) (c .before .before .before .before .before .before .args .at))
+    writes-append
+    (writes-two 32 34 (c .before .before .before .before .before .before .args .out .now)
+    (c .before .before .before .before .before .before .args .at))
     (writes-append (c .before .before .put-bytes .ensures) (writes-one 34 _ _))
 
 pub put-field-spec : {M : Type 1} → statement M

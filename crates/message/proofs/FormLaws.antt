@@ -19,9 +19,8 @@ use Rattle.message.specs.declared.Written.the-variants.{Done, Short, Too
 use Rattle.protocol.specs.Terms.{valueTail, messagePayload}
 use Rattle.message.specs.declared.Message.the-variants.{Version, Info, Pong, Error}
 use Rattle.message.specs.Quoting.{quote, decimal}
+use Rattle.message.specs.Rows.{row}
 use Rattle.message.specs.Forms.{
-  Row,
-  row,
   field,
   keyOf,
   valueOf,

@@ -53,6 +53,14 @@ writes-append {v} {w} {out} {out′} {out″} {at} {q} {r} a b = record {
 pub length-writes : {v out out′ : Bytes} {at r : ℕ} → Writes v out at r out′ → length out′ ≡ length out
 length-writes {v} {out} {out′} {at} {r} a = ap length (a .held) ∙ length-sets out at v
 
+-- of two parts that have room, the first has room, and after it the second
+pub front-fits : (v w out : Bytes) (at : ℕ) → at + length (v ++ w) ≤ length out → at + length v ≤ length out
+front-fits v w out at h = omega (arith, length-append v w)
+
+pub rest-fits : {v out out′ : Bytes} {at q : ℕ} (w : Bytes) → Writes v out at q out′
+    → at + length (v ++ w) ≤ length out → q + length w ≤ length out′
+rest-fits {v} {out} {out′} {at} {q} w a h = omega (arith, length-writes a, a .past, length-append v w)
+
 -- ---- escapes
 
 pub escape-escaped : (c : ℕ) → isEscaped c ≡ true → escape c ≡ 92 ∷ (48 + c / 64) ∷ (48 + c / 8 % 8) ∷

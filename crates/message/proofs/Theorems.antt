@@ -19,7 +19,8 @@ use Rattle.protocol.specs.declared.Refusal.the-variants.{Unknown, Parameter, Ro
 use Rattle.protocol.specs.Terms.{Message, info, error, valueTail, reason, messageId, messagePayload}
 use Rattle.message.specs.declared.Message.the-variants.{Info}
 use Rattle.message.specs.Quoting.{isEscaped, escape, escapes, quote, decimal, has}
-use Rattle.message.specs.Forms.{Row, row, table, rowIn, rowOf, field, valueOf, valueField, numberFields, fields}
+use Rattle.message.specs.Rows.{Row, table, rowIn, rowOf}
+use Rattle.message.specs.Forms.{valueOf, numberFields, fields}
 use Rattle.message.specs.Forms.{ending, line, packet, frame, form, encoded, written}
 use Rattle.message.specs.Writing.{said, lengthWith, writtenLength, Outcome, outcome}
 use Rattle.message.proofs.Laws.{escape-escaped, escape-plain}

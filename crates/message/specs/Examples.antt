@@ -1,29 +1,22 @@
--- Messages as bytes, computed: document 01's examples, every server message in its three forms, and commands as text.
+-- The server's messages as bytes, computed: document 01's examples, and every message in its three forms.
 use Prim.Native.Nat.{ℕ}
 use Prim.Native.String.{String}
 use mathlib.Core.Path.{_≡_, refl}
 use mathlib.Core.List.{List, [], _∷_, _++_, map}
 use mathlib.Core.Option.{some, none}
-use lib.ListN.{replicate}
 use Rattle.octets.specs.Octets.{Bytes, ascii, hasNul, firstNul}
 use Rattle.protocol.specs.declared.Kind.{Kind}
 use Rattle.protocol.specs.declared.Kind.the-variants.{Packets, Framed, Text, Stream}
 use Rattle.protocol.specs.declared.Refusal.the-variants.{Unknown, Parameter, Room, State}
 use Rattle.protocol.specs.Terms.{Message, version, info, pong, error, valueTail, messagePayload, reason}
-use Rattle.message.specs.declared.Message.the-variants.{Info}
-use Rattle.message.specs.declared.Written.the-variants.{Done, Short, TooLong}
 use Rattle.message.specs.Quoting.{isEscaped, escape, escapes, quote, decimal}
-use Rattle.message.specs.Forms.{rowIn, rowOf, valueOf, valueField, numberFields, fields, ending}
+use Rattle.message.specs.Rows.{rowIn, rowOf}
+use Rattle.message.specs.Forms.{valueOf, valueField, numberFields, fields, ending}
 use Rattle.message.specs.Forms.{line, form, encoded, written}
-use Rattle.message.specs.Writing.{said, lengthWith, writtenLength, outcome, writing, answered}
 
 -- a line of a server message
 abbrev server : String → Bytes
 server s = ascii s ++ 13 ∷ 10 ∷ []
-
--- a line of a command
-abbrev client : String → Bytes
-client s = ascii s ++ 10 ∷ []
 
 abbrev Example : Type 0
 Example = Kind × Message × Bytes
@@ -82,57 +75,3 @@ written-texts = refl
 pub written-binaries : map computed binaries ≡ map given binaries
 unfolding ascii valueTail messagePayload reason rowIn rowOf form encoded written
 written-binaries = refl
-
--- ---- commands as text lines: ID, payload, line
-
-abbrev commands : List (ℕ × Bytes × Bytes)
-commands =
-    (0, 0 ∷ [], client "HELLO 0 \"\"")
-    ∷ (0, 255 ∷ ascii "a\"b", client "HELLO 255 \"a\\042b\"")
-    ∷ (0, 10 ∷ [], client "HELLO 10 \"\"")
-    ∷ (1, ascii "site.*.state", client "SUB \"site.*.state\"")
-    ∷ (2, ascii "a\\*", client "UNSUB \"a\\134*\"")
-    ∷ (3, [], client "READ \"\"")
-    ∷ (4, ascii "k", client "WRITE \"k\"")
-    ∷ (4, 107 ∷ 0 ∷ [], client "WRITE \"k\" \"\"")
-    ∷ (4, 107 ∷ 0 ∷ ascii "a b", client "WRITE \"k\" \"a b\"")
-    ∷ (5, [], client "BEGIN")
-    ∷ (6, [], client "COMMIT")
-    ∷ (7, ascii "x", client "PING \"x\"")
-    ∷ []
-
-abbrev commandLine : ℕ × Bytes × Bytes → Bytes
-commandLine c = encoded Text (c .0) (c .1)
-
-abbrev commandGiven : ℕ × Bytes × Bytes → Bytes
-commandGiven c = c .2
-
-pub encoded-commands : map commandLine commands ≡ map commandGiven commands
-unfolding ascii hasNul firstNul isEscaped escape escapes quote decimal
-    rowIn rowOf valueOf valueField numberFields fields ending line form encoded
-encoded-commands = refl
-
--- ---- bodies, lengths and answers
-
--- a body without a NUL is a key alone; the first NUL ends the key, and later ones belong to the value
-pub said-bodies : map (said Info) (ascii "k" ∷ (107 ∷ 0 ∷ []) ∷ (107 ∷ 0 ∷ 0 ∷ 1 ∷ []) ∷ [] ∷ (0 ∷ []) ∷ []) ≡
-    info (ascii "k") none
-    ∷ info (ascii "k") (some [])
-    ∷ info (ascii "k") (some (0 ∷ 1 ∷ []))
-    ∷ info [] none
-    ∷ info [] (some [])
-    ∷ []
-unfolding ascii hasNul firstNul valueOf said
-said-bodies = refl
-
--- a framed PONG of one byte needs four bytes, and leaves the fifth as it was
-pub written-pong : map (writing Framed (pong (ascii "x"))) ((1 ∷ 2 ∷ 3 ∷ []) ∷ (1 ∷ 2 ∷ 3 ∷ 4 ∷ 5 ∷ []) ∷ []) ≡
-    answered Short (1 ∷ 2 ∷ 3 ∷ []) ∷ answered (Done 4) (130 ∷ 0 ∷ 1 ∷ 120 ∷ 5 ∷ []) ∷ []
-unfolding ascii messagePayload rowIn rowOf form encoded written outcome
-written-pong = refl
-
--- an identifier of 65,536 bytes is refused, whatever the slice, and has no length
-pub too-long : (writing Packets (pong (replicate 65536 0)) [] ≡ answered TooLong [])
-    × (writtenLength Packets (pong (replicate 65536 0)) ≡ 0)
-unfolding messagePayload outcome lengthWith
-too-long = (refl, refl)

@@ -3,56 +3,20 @@
 -- commands and the four server messages.
 -- A kind says which form: packets, frames or text. A stream whose kind is not fixed yet has no form of its own, and
 -- nothing is written to it; the definition gives it frames, so that it is total.
--- An ID in no row of the table is no message: as a text line it has no word and no fields.
 use mathlib.Core.List.{List, [], _∷_, _++_}
 use mathlib.Core.Bool.{Bool, cond}
 use mathlib.Core.Option.{Option, some, none}
 use Prim.Native.Nat.{ℕ, _+_, _/_, _%_}
 use lib.Dec.{eqb, ltb}
 use lib.ListN.{length, take, drop}
-use Rattle.octets.specs.Octets.{Bytes, ascii, hasNul, firstNul}
+use Rattle.octets.specs.Octets.{Bytes, hasNul, firstNul}
 use Rattle.protocol.specs.declared.Kind.{Kind}
 use Rattle.protocol.specs.declared.Kind.the-variants.{Packets, Stream, Framed, Text}
 use Rattle.protocol.specs.Terms.{Message, messageId, messagePayload}
 use Rattle.message.specs.declared.Shape.{Shape}
 use Rattle.message.specs.declared.Shape.the-variants.{Numbered, Quoted, Keyed, Bare}
 use Rattle.message.specs.Quoting.{quote, decimal}
-
--- ---- the messages by ID
-
--- a message's ID, the word of its text line, and how the line's fields follow from the payload
-pub record Row : Type 0 where
-  pub id : ℕ
-  pub word : Bytes
-  pub shape : Shape
-
-abbrev pub row : ℕ → Bytes → Shape → Row
-row i w s = record { id = i; word = w; shape = s }
-
--- the eight commands and the four server messages
-abbrev pub table : List Row
-table =
-    row 0 (ascii "HELLO") Numbered
-    ∷ row 1 (ascii "SUB") Quoted
-    ∷ row 2 (ascii "UNSUB") Quoted
-    ∷ row 3 (ascii "READ") Quoted
-    ∷ row 4 (ascii "WRITE") Keyed
-    ∷ row 5 (ascii "BEGIN") Bare
-    ∷ row 6 (ascii "COMMIT") Bare
-    ∷ row 7 (ascii "PING") Quoted
-    ∷ row 128 (ascii "VERSION") Numbered
-    ∷ row 129 (ascii "INFO") Keyed
-    ∷ row 130 (ascii "PONG") Quoted
-    ∷ row 131 (ascii "ERROR") Numbered
-    ∷ []
-
--- the row of an ID in a table
-unfoldable pub rowIn : List Row → ℕ → Row
-rowIn [] i = row i [] Bare
-rowIn (r ∷ rs) i = cond (eqb i (r .id)) r (rowIn rs i)
-
-unfoldable pub rowOf : ℕ → Row
-rowOf i = rowIn table i
+use Rattle.message.specs.Rows.{Row, rowOf}
 
 -- ---- the text form
 

@@ -2,12 +2,13 @@
 // written to a lent slice. A message is an ID, the word of its text line, the shape of its fields
 // and a payload in binary form.
 ghost use mathlib.Core.Path.{_≡_};
-ghost use Prim.Native.Nat.{ℕ, _+_, _≤_, _/_, _%_};
-ghost use mathlib.Core.List.{[], _∷_};
+ghost use Prim.Native.Nat.{_≤_};
 ghost use lib.ListN.{length};
 ghost use lib.Seq.{sets};
 ghost use Rattle.protocol.specs.Terms;
-ghost use Rattle.message.specs.Forms.{row, packet, frame, form};
+ghost use Rattle.message.specs.Rows.{row};
+ghost use Rattle.message.specs.Forms.{packet, frame, form};
+ghost use Rattle.message.specs.Post.{HasRoom};
 ghost use Rattle.message.specs.Writing.{said, lengthWith, writtenLength};
 ghost use Rattle.message.specs.Writing.{answered, outcome, writing};
 use protocol::Kind;
@@ -160,8 +161,8 @@ fn encode(kind: Kind, id: u8, word: &[u8], shape: Shape, payload: &[u8], out: &m
 
 // Writes the message of an ID and a payload at the start of out, which has room for it.
 fn put_message(kind: Kind, id: u8, word: &[u8], shape: Shape, payload: &[u8], out: &mut [u8])
-    requires { ⌜ (length (now payload) ≤ 65535)
-        × (length (form kind (row id (now word) shape) (now payload)) ≤ length (now out)) ⌝ }
+    requires { ⌜ HasRoom (now payload)
+        (form kind (row id (now word) shape) (now payload)) (now out) ⌝ }
     ensures { λ _. ⌜ now (out .exit) ≡ sets (now (out .entry)) 0
         (form kind (row id (now (word .entry)) shape) (now (payload .entry))) ⌝ }
 {

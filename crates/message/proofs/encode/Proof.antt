@@ -3,7 +3,8 @@ use native.Mathlib.Omega.{arith}
 use mathlib.Core.Path.{_≡_, sym, ap, _∙_}
 use lib.ListN.{length}
 use Rattle.octets.specs.Octets.{Bytes}
-use Rattle.message.specs.Forms.{row, form}
+use Rattle.message.specs.Rows.{row}
+use Rattle.message.specs.Forms.{form}
 use Rattle.message.proofs.FormLaws.{lengthWith-fits, outcome-long, outcome-short, outcome-done}
 use Rattle.message.proofs.encode.Statement.{statement}
 use Rattle.message.proofs.encode.Tie as tie
@@ -27,7 +28,8 @@ returns-2 c =
     sym (outcome-short _ _ _ (c .before .before .if1 .left) (omega (arith, length-bytes (c .before), c .if2 .taken)))
 
 put-message-requires : tie.Need-put-message-requires
-put-message-requires c κs = (c .before .before .before .if1 .left, omega (arith, length-bytes (c .before .before)))
+put-message-requires c κs =
+    record { short = c .before .before .before .if1 .left; fits = omega (arith, length-bytes (c .before .before)) }
 
 returns-3 : tie.Need-returns-3
 returns-3 c =

@@ -7,7 +7,7 @@ use Rattle.message.proofs.put_message.Tie as tie
 put-line-requires : tie.Need-put-line-requires
 unfolding form
 put-line-requires c κs = rw (c .before .enum-told4 .given .1) at
-    (c .before .before .before .before .before .before .pre .1)
+    (c .before .before .before .before .before .before .pre .fits)
 
 returns : tie.Need-returns
 unfolding form

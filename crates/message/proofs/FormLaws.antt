@@ -1,36 +1,23 @@
 -- The laws of the three forms: the fields of a payload, lengths, and what a writer answers.
 use mathlib.Core.Path.{_≡_, refl, sym, ap, _∙_}
-use mathlib.Core.List.{List, [], _∷_, _++_, append-nil}
+use mathlib.Core.List.{[], _∷_, _++_, append-nil}
 use mathlib.Core.Bool.{Bool, true, false, cond, _||_}
-use mathlib.Core.Option.{Option, some, none}
 use Prim.Native.Nat.{ℕ, suc, _+_, _-_, _*_, _≤_, _<_, compare·suc-suc}
 use native.Mathlib.Numerals.{add-one}
 use native.Mathlib.Omega.{arith}
-use lib.Dec.{eqb, ltb, leb}
+use lib.Dec.{eqb, ltb}
 use lib.ListN.{length, getD, drop, take, length-append, length-drop}
 use lib.Seq.{take-all, sets, length-take-le}
 use borrow.Author.Tests.{eqb-true, lt-ltb, le-ltb, ltb-true, ltb-false, le-leb, lt-leb}
-use Rattle.octets.specs.Octets.{Bytes, ascii, hasNul, firstNul}
-use Rattle.protocol.specs.declared.Kind.{Kind}
-use Rattle.protocol.specs.declared.Kind.the-variants.{Packets, Stream, Framed, Text}
+use Rattle.octets.specs.Octets.{Bytes, hasNul, firstNul}
 use Rattle.message.specs.declared.Shape.{Shape}
 use Rattle.message.specs.declared.Shape.the-variants.{Numbered, Quoted, Keyed, Bare}
 use Rattle.message.specs.declared.Written.the-variants.{Done, Short, TooLong}
 use Rattle.protocol.specs.Terms.{valueTail, messagePayload}
-use Rattle.message.specs.declared.Message.the-variants.{Version, Info, Pong, Error}
-use Rattle.message.specs.Quoting.{quote, decimal}
+use Rattle.message.specs.declared.Message.the-variants.{Info}
+use Rattle.message.specs.Quoting.{quote}
 use Rattle.message.specs.Rows.{row}
-use Rattle.message.specs.Forms.{
-  field,
-  keyOf,
-  valueOf,
-  valueField,
-  numberFields,
-  fields,
-  ending,
-  line,
-  form,
-}
+use Rattle.message.specs.Forms.{field, keyOf, valueOf, valueField, numberFields, fields, ending, line}
 use Rattle.message.specs.Writing.{said, lengthWith, outcome, answered}
 use Rattle.message.proofs.Laws.{length-field-most, length-decimal}
 

@@ -44,7 +44,7 @@ fn stream_kind(input: &[u8]) -> Kind
 }
 
 // Whether c ends a line.
-fn ends_line(c: u8) -> bool
+pub fn ends_line(c: u8) -> bool
     ensures { λ r. ⌜ r ≡ endsLine c ⌝ }
 {
     match c {

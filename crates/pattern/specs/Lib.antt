@@ -1,0 +1,9 @@
+pub mod Tokens
+pub mod Syntax
+pub mod Tree
+pub mod Matching
+pub mod Answer
+pub mod Table
+pub mod Cases
+pub mod Checking
+pub mod Walking

@@ -1,0 +1,4 @@
+pub mod Commands
+pub mod Refusals
+pub mod Meaning
+pub mod Sound

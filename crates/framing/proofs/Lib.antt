@@ -1,0 +1,4 @@
+pub mod Laws
+pub mod Cutting
+pub mod Examples
+pub mod Splitting

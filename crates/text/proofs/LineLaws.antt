@@ -1,0 +1,94 @@
+-- A line by its word and its payload.
+use mathlib.Core.Path.{_≡_, refl, _∙_}
+use mathlib.Core.List.{List}
+use mathlib.Core.Option.{Option, none, some}
+use Prim.Native.Nat.{ℕ, _+_, _-_, _≤_, _<_}
+use native.Mathlib.Omega.{arith}
+use lib.ListN.{length, drop, take, drop-of-length-le}
+use lib.Seq.{drop-cons}
+use Rattle.octets.specs.Octets.{Bytes}
+use Rattle.text.specs.Fields.{word, afterWord, Field, fields}
+use Rattle.text.specs.Payload.{payloadFor}
+use Rattle.text.specs.Line.{made, payloadOf, ofPayload, ofId, begun, blank, refused, lineOf}
+use Rattle.text.specs.PayloadPost.{BuildsLine, Builds, builtAs}
+use Rattle.text.specs.FieldPost.{Skipped, Spelled}
+use Rattle.text.specs.LinePost.{Translates}
+use Rattle.text.specs.declared.payloads.Built.{Built}
+use Rattle.text.specs.declared.payloads.Built.the-variants.{Payload, Faulty as Faulty2}
+use Rattle.text.specs.declared.Translated.{Translated}
+use Rattle.text.specs.declared.Translated.the-variants.{Refused}
+use Rattle.protocol.specs.declared.Refusal.the-variants.{Unknown, Parameter}
+use Rattle.text.specs.Words.{idOf}
+use Rattle.text.specs.Table.{namedOf}
+use Rattle.text.specs.declared.words.Named.the-variants.{Id, Unknown as NoId}
+
+-- ---- payloads by ID
+
+-- two rules that agree on every list of fields
+pub payloadOf-same : (f g : List Field → Option Bytes) → ((fs : List Field) → f fs ≡ g fs) → (s : Bytes)
+    → payloadOf f s ≡ payloadOf g s
+unfolding payloadOf
+payloadOf-same f g h s = by (fields 2 s)
+  where
+    by : (o : Option (List Field)) → made f o ≡ made g o
+    by none = refl
+    by (some fs) = h fs
+
+-- ---- the line
+
+pub arm : (id : ℕ) (p : Option Bytes) (most : ℕ) (buf : Bytes) (b : Built) (buf′ : Bytes) (r : Translated)
+    → length buf′ ≡ length buf
+    → Builds p most buf 0 b buf′ → r ≡ builtAs id b → Translates (ofPayload id p) buf r buf′
+arm id p most buf (Payload n) buf′ r l w e = rw (w .is) (record { answer = rw (w .count) e; held = w .held })
+arm id p most buf Faulty2 buf′ r l w e = rw w (record { answer = e; held = l })
+
+module _ (id : ℕ) (line : Bytes) (at : ℕ) (buf : Bytes) where
+  -- an ID whose payload h makes
+  pub arm-for : (h : List Field → Option Bytes) → ((fs : List Field) → payloadFor id fs ≡ h fs)
+      → (b : Built) (buf′ : Bytes) (r : Translated)
+      → length buf′ ≡ length buf → BuildsLine h line at buf b buf′ → r ≡ builtAs id b
+      → Translates (ofPayload id (payloadOf (payloadFor id) (drop at line))) buf r buf′
+  arm-for h e b buf′ r l w k =
+      rw (payloadOf-same (payloadFor id) h e (drop at line))
+      (arm id (payloadOf h (drop at line)) (length line + 1) buf b buf′ r l w k)
+
+  -- an ID that no command has
+  pub arm-none : ((fs : List Field) → payloadFor id fs ≡ none)
+      → Translates (ofPayload id (payloadOf (payloadFor id) (drop at line))) buf (Refused Parameter) buf
+  unfolding payloadOf
+  arm-none e = rw (payloadOf-same (payloadFor id) (λ fs. none) e (drop at line)) (by (fields 2 (drop at line)))
+    where
+      by : (o : Option (List Field)) → Translates (ofPayload id (made (λ fs. none) o)) buf (Refused Parameter) buf
+      by none = record { answer = refl; held = refl }
+      by (some fs) = record { answer = refl; held = refl }
+
+pub begun-at : (line : Bytes) (i : ℕ) → i < length line
+    → begun (drop i line) ≡ ofId (idOf (word (drop i line))) (afterWord (drop i line))
+unfolding begun
+begun-at line i h = rw (drop-cons line i 0 h)
+
+pub line-blank : (line : Bytes) (i : ℕ) → Skipped line 0 i → length line ≤ i → lineOf line ≡ blank
+unfolding lineOf begun
+line-blank line i k h = rw (k .is, drop-of-length-le line h)
+
+-- an ID as the code gives it
+
+named-unknown : (o : Option ℕ) → namedOf o ≡ NoId → o ≡ none
+named-unknown none e = refl
+named-unknown (some n) e = let z : _≡_ {A = ℕ} 0 1 = cc in absurd (omega arith)
+
+named-is : (o : Option ℕ) (n : ℕ) → namedOf o ≡ Id n → o ≡ some n
+named-is none n e = let z : _≡_ {A = ℕ} 0 1 = cc in absurd (omega arith)
+named-is (some m) n e = cc
+
+module _ {line : Bytes} {i e : ℕ} (k : Skipped line 0 i) (h : i < length line) (w : Spelled line i e) where
+  line-word : lineOf line ≡ ofId (idOf (take (e - i) (drop i line))) (drop e line)
+  unfolding lineOf
+  line-word = rw (k .is) (begun-at line i h ∙ rw (w .is, w .rest))
+
+  pub line-unknown : namedOf (idOf (take (e - i) (drop i line))) ≡ NoId → lineOf line ≡ refused Unknown
+  line-unknown f = line-word ∙ rw (named-unknown (idOf (take (e - i) (drop i line))) f)
+
+  pub line-known : (id : ℕ) → namedOf (idOf (take (e - i) (drop i line))) ≡ Id id
+      → lineOf line ≡ ofPayload id (payloadOf (payloadFor id) (drop e line))
+  line-known id f = line-word ∙ rw (named-is (idOf (take (e - i) (drop i line))) id f)

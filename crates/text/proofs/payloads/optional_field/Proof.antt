@@ -1,0 +1,47 @@
+-- `text::payloads::optional_field`: nothing, or a field and nothing after it.
+use mathlib.Core.Path.{sym, _∙_}
+use lib.ListN.{drop}
+use Rattle.text.proofs.PayloadLaws.{nothing, pay-bad, one-built, one-more}
+use borrow.Author.Needs.{needs}
+use Rattle.text.proofs.payloads.optional_field.Statement.{statement}
+use Rattle.text.proofs.payloads.optional_field.Tie as tie
+
+is-ended-requires : tie.Need-is-ended-requires
+is-ended-requires c κs =
+    (rw (c .before .f .given .1) at (c .before .before .before .before .before .next-field .ensures)) .within
+
+returns : tie.Need-returns
+returns c = let p = rw (c .enum-told .given .1) at (c .before .before .before .before .next-field .ensures) in
+    nothing _ _ (drop (c .before .before .before .before .before .before .before .before .args .at)
+    (c .before .before .before .before .before .before .before .before .args .line .now)) _ _ _ (p .0) (p .1)
+
+returns-2 : tie.Need-returns-2
+returns-2 c = pay-bad _ _ _ (drop (c .before .before .before .before .before .before .before .before .args .at)
+    (c .before .before .before .before .before .before .before .before .args .line .now))
+    (rw (c .enum-told2 .given .1) at (c .before .before .before .before .next-field .ensures))
+
+returns-3 : tie.Need-returns-3
+returns-3 c = one-built (rw (c .before .before .before .f .given .1) at (c .before .before .before .before .before
+    .before .before .next-field .ensures)) _ (sym (c .before .is-ended .ensures) ∙ c .if1 .taken)
+
+returns-4 : tie.Need-returns-4
+returns-4 c = one-more (rw (c .before .before .before .f .given .1) at (c .before .before .before .before .before
+    .before .before .next-field .ensures)) _ (sym (c .before .is-ended .ensures) ∙ c .if1 .left)
+
+pub optional-field-spec : {M : Type 1} → statement M
+optional-field-spec =
+    tie.close
+    (tie.spec
+    (λ c κs. search needs)
+    (λ c. search needs)
+    (λ c. search needs)
+    (λ c. search needs)
+    is-ended-requires
+    (λ c. search needs)
+    returns
+    (λ c. search needs)
+    returns-2
+    (λ c. search needs)
+    returns-3
+    (λ c. search needs)
+    returns-4)

@@ -1,0 +1,8 @@
+pub mod Words
+pub mod Table
+pub mod Fields
+pub mod Payload
+pub mod Line
+pub mod FieldPost
+pub mod PayloadPost
+pub mod LinePost

@@ -1,0 +1,65 @@
+-- What the functions on payloads ensure. A place in a line is an index; `drop at line` is what stands from there on.
+use mathlib.Core.Path.{_≡_}
+use mathlib.Core.List.{List, [], _∷_}
+use mathlib.Core.Option.{Option, none, some}
+use Prim.Native.Nat.{ℕ, _+_, _≤_}
+use lib.ListN.{length, drop}
+use lib.Seq.{sets}
+use Rattle.octets.specs.Octets.{Bytes}
+use Rattle.text.specs.Fields.{Field, bytesOf}
+use Rattle.text.specs.Fields.{ended, field, next}
+use Rattle.text.specs.Line.{payloadOf}
+use Rattle.text.specs.Payload.{byCount, notTwo, version, helloPayload}
+use Rattle.protocol.specs.declared.Refusal.the-variants.{Parameter}
+use Rattle.text.specs.declared.payloads.Number.{Number}
+use Rattle.text.specs.declared.payloads.Number.the-variants.{Is, Bad as Bad2}
+use Rattle.text.specs.declared.payloads.Version.{Version}
+use Rattle.text.specs.declared.payloads.Version.the-variants.{Missing, Faulty as Faulty1, Is as Is1}
+use Rattle.text.specs.declared.payloads.Built.{Built}
+use Rattle.text.specs.declared.payloads.Built.the-variants.{Payload, Faulty as Faulty2}
+use Rattle.text.specs.declared.Translated.{Translated}
+use Rattle.text.specs.declared.Translated.the-variants.{Message, Refused}
+
+-- a number, or none, as the code gives it
+abbrev pub numberOf : Option ℕ → Number
+numberOf none = Bad2
+numberOf (some n) = Is n
+
+-- a version n runs to r
+pub record VersionAs (line : Bytes) (at n r : ℕ) : Type 0 where
+  pub value : Field
+  pub is : next (drop at line) ≡ field value (drop r line)
+  pub number : version value ≡ some n
+  pub within : r ≤ length line
+
+-- the version from `at` on
+abbrev pub VersionAt : Bytes → ℕ → Version → Type 0
+VersionAt line at Missing = next (drop at line) ≡ ended
+VersionAt line at Faulty1 = payloadOf helloPayload (drop at line) ≡ none
+VersionAt line at (Is1 n r) = VersionAs line at n r
+
+-- the payload, or the part of one, is there, and stands in the buffer from `to` on: n bytes, at most `most`
+pub record BuildsAs (p : Option (Bytes)) (most : ℕ) (buf : Bytes) (to n : ℕ) (buf′ : Bytes) : Type 0 where
+  pub value : Bytes
+  pub is : p ≡ some value
+  pub count : length value ≡ n
+  pub held : buf′ ≡ sets buf to value
+  pub short : n ≤ most
+
+-- the same by what the code gives
+abbrev pub Builds : Option (Bytes) → ℕ → Bytes → ℕ → Built → Bytes → Type 0
+Builds p most buf to (Payload n) buf′ = BuildsAs p most buf to n buf′
+Builds p most buf to Faulty2 buf′ = p ≡ none
+
+-- the payload that h makes of the fields from `at` on, which is at most a byte longer than the line
+abbrev pub BuildsLine : (List Field → Option Bytes) → Bytes → ℕ → Bytes → Built → Bytes → Type 0
+BuildsLine h line at buf r buf′ = Builds (payloadOf h (drop at line)) (length line + 1) buf 0 r buf′
+
+-- what follows the key in a WRITE's payload
+abbrev pub valuePayload : List Field → Option (Bytes)
+valuePayload = byCount (some []) (λ v. some (0 ∷ bytesOf v)) notTwo
+
+-- what is answered for a payload
+abbrev pub builtAs : ℕ → Built → Translated
+builtAs id Faulty2 = Refused Parameter
+builtAs id (Payload n) = Message id n

@@ -1,0 +1,163 @@
+-- What holds of every message that is read: commands are sound, lengths are within the input, a kind once fixed
+-- stays.
+use mathlib.Core.Path.{_≡_, refl, ap, _∙_}
+use mathlib.Core.List.{[], _∷_}
+use mathlib.Core.Bool.{Bool, true, false, cond}
+use mathlib.Core.Option.{Option}
+use mathlib.Core.Logic.{inl, inr}
+use Prim.Native.Nat.{ℕ, zero, suc, _+_, _-_, _≤_, _<_}
+use native.Mathlib.Omega.{arith}
+use lib.ListN.{length, take, getD}
+use lib.Seq.{length-take-le, getD-take}
+use borrow.Author.Tests.{ltb-true, lt-ltb, le-leb}
+use Rattle.octets.specs.Octets.{Bytes, hasNul}
+use Rattle.protocol.specs.declared.Kind.{Kind}
+use Rattle.protocol.specs.declared.Kind.the-variants.{Packets, Stream, Framed, Text}
+use Rattle.protocol.specs.declared.Refusal.the-variants.{Room}
+use Rattle.protocol.specs.Terms.{Action, hello, sub, unsub, read, write, Reading, command, invalid, begin, commit}
+use Rattle.protocol.specs.Terms.{plain, payload, Cut, whole, incomplete}
+use Rattle.protocol.specs.Terms as Terms
+use Rattle.framing.specs.Framing.{startsText, kindOf, endsLine, lineEnd, lineLength, lengthOf, messageLength}
+use Rattle.framing.specs.Framing as Framing
+use Rattle.framing.proofs.Laws.{lengthOf-le, lineEnd-length}
+use Rattle.text.specs.Line.{Line, blank, refused, message}
+use Rattle.command.specs.Sound.{GoodPattern, Fine, SoundReading}
+use Rattle.command.specs.Meaning.{readingOf}
+use Rattle.command.proofs.SoundLaws.{reading-sound}
+use Rattle.wire.specs.Received.{textLine, decodedIn, decoded, readingLine, reading, isWhole, received}
+use Rattle.wire.specs.Verdict.{Fixes}
+
+-- ---- commands
+
+-- a plain command is sound
+abbrev SoundPlain : Reading → Type 0
+SoundPlain Terms.blank = Unit {0}
+SoundPlain (command begin) = Unit {0}
+SoundPlain (command commit) = Unit {0}
+SoundPlain (command (plain a)) = (length (payload a) ≤ 65535) × Fine a
+SoundPlain (invalid r) = Unit {0}
+
+sound-plain : (id : ℕ) (p : Bytes) (x : Reading) → SoundReading id p x → SoundPlain x
+sound-plain id p Terms.blank h = tt
+sound-plain id p (command begin) h = tt
+sound-plain id p (command commit) h = tt
+sound-plain id p (command (plain a)) h = (rw (h .content) (h .fits), h .fine)
+sound-plain id p (invalid r) h = tt
+
+line-sound : (l : Line) → SoundPlain (readingLine l)
+line-sound blank = tt
+line-sound (refused r) = tt
+line-sound (message id p) = sound-plain id p (readingOf id p) (reading-sound id p)
+
+module _ (k : Kind) (m : Bytes) where
+  plain-sound : (a : Action) → reading k m ≡ command (plain a) → SoundPlain (command (plain a))
+  plain-sound a e = rw e at (line-sound (decoded k m))
+
+  -- a payload has at most 65,535 bytes
+  pub payload-fits : (a : Action) → reading k m ≡ command (plain a) → length (payload a) ≤ 65535
+  payload-fits a e = plain-sound a e .0
+
+  -- HELLO has a version byte
+  pub hello-version : (t : Bytes) → reading k m ≡ command (plain (hello t)) → 0 < length t
+  hello-version t e = plain-sound (hello t) e .1
+
+  -- SUB's and UNSUB's pattern has no NUL, is valid and has at most 255 bytes
+  pub sub-pattern : (p : Bytes) → reading k m ≡ command (plain (sub p)) → GoodPattern p
+  sub-pattern p e = plain-sound (sub p) e .1
+
+  pub unsub-pattern : (p : Bytes) → reading k m ≡ command (plain (unsub p)) → GoodPattern p
+  unsub-pattern p e = plain-sound (unsub p) e .1
+
+  -- READ's and WRITE's key has no NUL
+  pub read-key : (key : Bytes) → reading k m ≡ command (plain (read key)) → hasNul key ≡ false
+  read-key key e = plain-sound (read key) e .1
+
+  pub write-key : (key : Bytes) (v : Option Bytes) → reading k m ≡ command (plain (write key v)) → hasNul key ≡ false
+  write-key key v e = plain-sound (write key v) e .1
+
+-- ---- the first message of an input
+
+abbrev lengthOfCut : Cut → ℕ
+lengthOfCut incomplete = 0
+lengthOfCut (whole n l r) = n
+
+abbrev FixesOf : Kind → Cut → Type 0
+FixesOf k incomplete = Unit {0}
+FixesOf k (whole n l r) = Fixes k l
+
+received-length : (k : Kind) (s : Bytes) → lengthOfCut (received k s) ≤ length s
+unfolding received
+received-length k s = by (isWhole k (messageLength k s))
+  where
+    by : (b : Bool)
+        → lengthOfCut (cond b (whole (messageLength k s) (kindOf k s) (reading k (Framing.message k s))) incomplete) ≤
+        length s
+    by true = lengthOf-le (kindOf k s) s
+    by false = omega arith
+
+-- no more is consumed than there is
+pub consumed-fits : (k : Kind) (s : Bytes) (n : ℕ) (l : Kind) (r : Reading) → received k s ≡ whole n l r
+    → n ≤ length s
+consumed-fits k s n l r e = rw e at (received-length k s)
+
+same-kind : (k : Kind) → (k ≡ Stream → ⊥) → Fixes k k
+same-kind k h = record { keeps = inr refl; fixed = h }
+
+kindOf-fixes : (k : Kind) (s : Bytes) → isWhole k (messageLength k s) ≡ true → Fixes k (kindOf k s)
+unfolding kindOf lengthOf
+kindOf-fixes Packets s h = same-kind Packets (λ e. let z : _≡_ {A = ℕ} 0 1 = cc in omega arith)
+kindOf-fixes Stream [] h = absurd (omega (arith, ltb-true 0 0 h))
+kindOf-fixes Stream (c ∷ s) h = by (startsText c)
+  where
+    by : (b : Bool) → Fixes Stream (cond b Text Framed)
+    by true = record { keeps = inl refl; fixed = λ e. let z : _≡_ {A = ℕ} 0 1 = cc in omega arith }
+    by false = record { keeps = inl refl; fixed = λ e. let z : _≡_ {A = ℕ} 0 1 = cc in omega arith }
+kindOf-fixes Framed s h = same-kind Framed (λ e. let z : _≡_ {A = ℕ} 0 1 = cc in omega arith)
+kindOf-fixes Text s h = same-kind Text (λ e. let z : _≡_ {A = ℕ} 0 1 = cc in omega arith)
+
+received-kind : (k : Kind) (s : Bytes) → FixesOf k (received k s)
+unfolding received
+received-kind k s = by (isWhole k (messageLength k s)) refl
+  where
+    by : (b : Bool) → isWhole k (messageLength k s) ≡ b
+        → FixesOf k (cond b (whole (messageLength k s) (kindOf k s) (reading k (Framing.message k s))) incomplete)
+    by true e = kindOf-fixes k s e
+    by false e = tt
+
+-- a message, taken or refused, fixes a stream's kind, and a fixed kind never changes
+pub fixes-kind : (k : Kind) (s : Bytes) (n : ℕ) (l : Kind) (r : Reading) → received k s ≡ whole n l r → Fixes k l
+fixes-kind k s n l r e = rw e at (received-kind k s)
+
+-- ---- an over-long line
+
+lineEnd-before : (s : Bytes) (i : ℕ) → i < lineEnd s → endsLine (getD s i 0) ≡ false
+unfolding lineEnd
+lineEnd-before [] i h = absurd (omega arith)
+lineEnd-before (c ∷ s) i h = by (endsLine c) refl i h (lineEnd-before s)
+  where
+    by : (b : Bool) → endsLine c ≡ b → (i : ℕ) → i < cond b 0 (lineEnd s + 1)
+        → ((j : ℕ) → j < lineEnd s → endsLine (getD s j 0) ≡ false) → endsLine (getD (c ∷ s) i 0) ≡ false
+    by true e i h f = absurd (omega arith)
+    by false e zero h f = e
+    by false e (suc i) h f = f i (omega arith)
+
+-- n bytes without a line end
+no-end : (n : ℕ) (s : Bytes) → 0 < n → n ≤ lineEnd s → textLine (take n s) ≡ refused Room
+unfolding textLine
+no-end n s p h =
+    let l : length (take n s) ≡ n = length-take-le n s (omega (arith, lineEnd-length s)) in
+    let e : endsLine (getD (take n s) (n - 1) 0) ≡ false
+    = rw (getD-take n s (n - 1) 0 (omega arith)) (lineEnd-before s (n - 1) (omega arith)) in
+    rw (l, e)
+
+received-line : (n : ℕ) (s : Bytes) → lineLength s ≡ n → 0 < n
+    → received Text s ≡ whole n Text (readingLine (textLine (take n s)))
+unfolding received kindOf lengthOf decodedIn
+received-line n s e p = rw (e, lt-ltb 0 n p)
+
+-- 262,152 bytes without a line end are no room, whatever they hold, and are consumed
+pub over-long : (s : Bytes) → 262152 ≤ lineEnd s → received Text s ≡ whole 262152 Text (invalid Room)
+unfolding lineLength
+over-long s h =
+    received-line 262152 s (rw (le-leb 262152 (lineEnd s) h)) (omega arith)
+    ∙ ap (λ (l : Line). whole 262152 Text (readingLine l)) (no-end 262152 s (omega arith) h)

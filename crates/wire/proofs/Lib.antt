@@ -1,0 +1,5 @@
+pub mod Laws
+pub mod Refusals
+pub mod Facts
+pub mod ReadLaws
+pub mod Examples

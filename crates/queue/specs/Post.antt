@@ -1,0 +1,52 @@
+-- What the operations on a region ask and promise. Each keeps the region's length, and says which rule holds of the
+-- region afterwards and what it then means, by a definition of Meaning applied to what it meant before.
+use mathlib.Core.Path.{_≡_}
+use mathlib.Core.Bool.{Bool}
+use mathlib.Core.List.{_++_}
+use Prim.Native.Nat.{ℕ, _+_, _≤_, _<_}
+use lib.Dec.{leb}
+use lib.ListN.{length}
+use lib.Seq.{sets}
+use Rattle.octets.specs.Octets.{Bytes}
+use Rattle.octets.specs.Number.{bigEndian}
+use Rattle.protocol.specs.declared.Kind.{Kind}
+use Rattle.protocol.specs.declared.Refusal.{Refusal}
+use Rattle.queue.specs.Rows.{row, firstLength, firstMessage}
+use Rattle.queue.specs.Meaning.{Queue, queueWith, kept, keptRows, empty, taken, owing, settled, shut}
+use Rattle.queue.specs.Region.{InStep, AtRest, head, tail, pendingEnd, flag, room, queuedOf, queueOf}
+
+-- the region q has become q′, for which the rule holds and which means s
+pub record Outcome (Rule : Type 0) (q q′ : Bytes) (s : Queue) : Type 0 where
+  pub size : length q′ ≡ length q
+  pub fine : Rule
+  pub meaning : queueOf q′ ≡ s
+
+-- clear: an empty queue, whatever was there; any reserve that Q allows is free
+abbrev pub Clearing : Bytes → Bytes → Type 0
+Clearing q q′ = Outcome ((k : ℕ) → k ≤ room q → AtRest k q′) q q′ empty
+
+-- owe: the message m is owed
+abbrev pub Owing : Bytes → Bytes → Bytes → Type 0
+Owing m q q′ = Outcome (InStep 64 q′) q q′ (owing (room q) m (queueOf q))
+
+-- settle: the step ends; what was reserved is reserved
+abbrev pub Settling : Bytes → Bytes → Type 0
+Settling q q′ = Outcome ((k : ℕ) → InStep k q → AtRest k q′) q q′ (settled (queueOf q))
+
+-- shut_with: the ERROR is queued, and nothing is reserved any more
+abbrev pub Shutting : Kind → Refusal → Bytes → Bytes → Type 0
+Shutting k r q q′ = Outcome (AtRest 0 q′) q q′ (shut k r (queueOf q))
+
+-- the first message is gone; what was reserved is reserved
+abbrev pub Removing : Bytes → Bytes → Type 0
+Removing q q′ = Outcome ((k : ℕ) → AtRest k q → AtRest k q′) q q′ (taken (queueOf q))
+
+-- the first message stands at the front of out, the rest of out is as it was, and r is the message's length
+pub record Copying (q out : Bytes) (r : ℕ) (out′ : Bytes) : Type 0 where
+  pub count : r ≡ firstLength (queuedOf q)
+  pub copied : out′ ≡ sets out 0 (firstMessage (queuedOf q))
+
+-- take: both
+pub record Taking (q out : Bytes) (r : ℕ) (q′ out′ : Bytes) : Type 0 where
+  pub message : Copying q out r out′
+  pub left : Removing q q′

@@ -1,0 +1,10 @@
+pub mod Tests
+pub mod Commands
+pub mod Packed
+pub mod Offsets
+pub mod Regions
+pub mod Writing
+pub mod Checks
+pub mod Walks
+pub mod Bodies
+pub mod Turns

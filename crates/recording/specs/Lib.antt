@@ -1,0 +1,5 @@
+pub mod Command
+pub mod Region
+pub mod Turn
+pub mod Contracts
+pub mod Examples

@@ -1,0 +1,58 @@
+-- The recording region of a slot: state 4 (0 none, 1 recording), used bytes 4, number of commands 4, then the record
+-- room of R bytes, whose first used bytes are the commands' rows. Its rules (`recordingFine`) and its meaning
+-- (`recordingOf`): what a client has recorded since its BEGIN (document 01, "The simple server", BEGIN). Numbers have
+-- the highest byte first. The bytes behind the rows have no rule.
+use Prim.Native.Nat.{ℕ, _-_}
+use mathlib.Core.List.{List}
+use mathlib.Core.Bool.{Bool, cond, _&&_, _||_}
+use mathlib.Core.Option.{Option, some, none}
+use lib.Dec.{eqb, leb}
+use lib.ListN.{length}
+use Rattle.octets.specs.Octets.{Bytes}
+use Rattle.octets.specs.Part.{part}
+use Rattle.octets.specs.Number.{numberAt}
+use Rattle.protocol.specs.Terms.{Action}
+use Rattle.recording.specs.Command.{commands, rowsFine}
+
+unfoldable pub stateOf : Bytes → ℕ
+stateOf r = numberAt 4 r 0
+
+unfoldable pub usedOf : Bytes → ℕ
+usedOf r = numberAt 4 r 4
+
+unfoldable pub countOf : Bytes → ℕ
+countOf r = numberAt 4 r 8
+
+-- the record room R
+abbrev pub roomOf : Bytes → ℕ
+roomOf r = length r - 12
+
+-- the bytes of the rows
+unfoldable pub rowsOf : Bytes → Bytes
+rowsOf r = part r 12 (usedOf r)
+
+-- the commands of the rows
+unfoldable pub recorded : Bytes → List Action
+recorded r = commands (countOf r) (rowsOf r)
+
+-- what the region means: nothing, or the commands recorded so far, in order
+unfoldable pub recordingOf : Bytes → Option (List Action)
+recordingOf r = cond (eqb (stateOf r) 0) none (some (recorded r))
+
+-- whether a region has the size of a recording: R is at most 262,144
+unfoldable pub sized : Bytes → Bool
+sized r = leb 12 (length r) && leb (length r) 262156
+
+-- the state is 1, or it is 0 and no command is held
+unfoldable pub stateFine : ℕ → ℕ → Bool
+stateFine state n = eqb state 1 || (eqb state 0 && eqb n 0)
+
+-- The rules: the size; used bytes within R; at most 64 commands; a state that is known; and the used bytes are just so
+-- many whole rows, so that in state 0 none is used.
+unfoldable pub recordingFine : Bytes → Bool
+recordingFine r =
+    sized r
+    && (leb (usedOf r) (roomOf r)
+    && (leb (countOf r) 64
+    && (stateFine (stateOf r) (countOf r)
+    && rowsFine (countOf r) (rowsOf r))))

@@ -1,0 +1,81 @@
+// The commit's look-up: what a command finds for a key at its turn.
+ghost use mathlib.Core.Path.{_≡_};
+ghost use mathlib.Core.Bool.{Bool, true};
+ghost use Prim.Native.Nat.{ℕ, _+_, _≤_};
+ghost use lib.ListN.{length};
+ghost use Rattle.octets.specs.Order.{same};
+ghost use Rattle.recording.specs.Command.{keyIn};
+ghost use Rattle.recording.specs.Turn.{bodyAtTurn};
+ghost use Rattle.recording.specs.Contracts.{Until, Candidate, Latest, LastWrite};
+use crate::Row;
+
+// Whether the payload of a WRITE is one of the key: the key, and then its end or a NUL.
+fn is_write_of(payload: &[u8], key: &[u8]) -> bool
+    ensures { λ b. ⌜ b ≡ same (now (key .entry)) (keyIn (now (payload .entry))) ⌝ }
+{
+    let n = key.len();
+    if payload.len() < n {
+        return false;
+    }
+    if !octets::equal(key, &payload[..n]) {
+        return false;
+    }
+    octets::first_nul(payload) == n
+}
+
+// The payload of n bytes at an offset if it is a WRITE of the key, or else what was found so far.
+fn latest(r: &[u8], at: usize, n: usize, key: &[u8], w: Row) -> Row
+    requires { ⌜ Candidate (now r) at n w ⌝ }
+    ensures { λ v. ⌜ Latest (now (r .entry)) at (now (key .entry)) w v ⌝ }
+{
+    if r[12 + at] != 4 {
+        return w;
+    }
+    let from = 16 + at;
+    if !is_write_of(&r[from..from + n], key) {
+        return w;
+    }
+    Row {
+        found: true,
+        at: from,
+        len: n,
+    }
+}
+
+// Where the payload of the last WRITE of the key stands, among the commands whose rows begin before
+// the offset `until`. `found` is false where there is none: the empty payload of a WRITE that
+// deletes the empty key is found.
+pub fn last_write(r: &[u8], until: usize, key: &[u8]) -> Row
+    requires { ⌜ Until (now r) until ⌝ }
+    ensures { λ w. ⌜ LastWrite (now (r .entry)) until (now (key .entry)) w ⌝ }
+{
+    let mut w = Row {
+        found: false,
+        at: 0,
+        len: 0,
+    };
+    let mut at = 0;
+    while at < until {
+        let n = octets::u24_at(r, 13 + at);
+        w = latest(r, at, n, key, w);
+        at = at + 4 + n;
+    }
+    w
+}
+
+// What a command finds for a key at its turn, as a part of the recording or of the store: the
+// payload of the last WRITE of the key among the commands before the offset `until`, or else
+// `stored`, which is the body that the store has for the key, empty where it has none.
+pub fn turn_finds<'a>(recording: &'a [u8], until: usize, stored: &'a [u8], key: &[u8]) -> &'a [u8]
+    requires { ⌜ Until (now recording) until ⌝ }
+    ensures { λ b. ⌜ now b ≡ bodyAtTurn (now (key .entry)) (now (recording .entry)) until
+        (now (stored .entry)) ⌝ }
+{
+    let w = last_write(recording, until, key);
+    if w.found {
+        let at = w.at;
+        let len = w.len;
+        return &recording[at..at + len];
+    }
+    stored
+}

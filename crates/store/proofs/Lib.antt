@@ -1,0 +1,9 @@
+pub mod RowLaws
+pub mod Rows
+pub mod Region
+pub mod Split
+pub mod Splice
+pub mod Turns
+pub mod Change
+pub mod Laws
+pub mod Cases

@@ -1,0 +1,23 @@
+// The store region of the broker's memory: a head (used bytes, number of entries) and packed rows,
+// one for each entry, in ascending order of keys. Every function but `is_fine` and `clear` asks for
+// a region that holds a store.
+mod check;
+mod reading;
+mod row;
+mod writing;
+
+pub use check::is_fine;
+pub use reading::Place;
+pub use reading::body_at;
+pub use reading::count;
+pub use reading::find;
+pub use reading::fits;
+pub use reading::fits_with;
+pub use reading::key_at;
+pub use reading::look_up;
+pub use reading::row_size;
+pub use reading::used;
+pub use writing::clear;
+pub use writing::delete;
+pub use writing::write;
+pub use writing::write_at;

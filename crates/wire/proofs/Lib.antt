@@ -2,4 +2,5 @@ pub mod Laws
 pub mod Refusals
 pub mod Facts
 pub mod ReadLaws
+pub mod RoundTrip
 pub mod Examples

@@ -1,3 +1,4 @@
 pub mod Received
 pub mod Post
 pub mod Verdict
+pub mod Strings

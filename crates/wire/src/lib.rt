@@ -77,7 +77,8 @@ fn read_buffer(id: u8, buf: &[u8], len: usize) -> Reading
 // A line without its ending byte, translated into the buffer, which has room for it.
 fn read_line(line: &[u8], buf: &mut [u8]) -> Reading
     requires { ⌜ length (now line) ≤ length (now buf) ⌝ }
-    ensures { λ r. ⌜ ReadsLine (lineOf (now (line .entry))) (now (buf .entry)) r (now (buf .exit)) ⌝ }
+    ensures { λ r. ⌜ ReadsLine (lineOf (now (line .entry)))
+        (now (buf .entry)) r (now (buf .exit)) ⌝ }
 {
     let t = text::translate(line, buf);
     match t {

@@ -7,14 +7,16 @@ use native.Mathlib.Omega.{arith}
 use lib.ListN.{length}
 use Rattle.octets.specs.Octets.{Bytes}
 use Rattle.protocol.specs.declared.Kind.{Kind}
-use Rattle.protocol.specs.Terms.{Action, hello, sub, unsub, read, write, ping, plain, Reading, command, Cut, incomplete, whole}
+use Rattle.protocol.specs.Terms.{Action, hello, sub, unsub, read, write, ping, plain, Reading, command}
+use Rattle.protocol.specs.Terms.{Cut, incomplete, whole}
 use Rattle.pattern.specs.Syntax.{valid}
 use Rattle.message.proofs.Theorems.{error-fits}
 use Rattle.framing.specs.Framing.{kindOf, messageLength}
 use Rattle.framing.specs.Framing as Framing
 use Rattle.command.specs.Sound.{GoodPattern}
 use Rattle.wire.specs.Received.{reading, isWhole, received}
-use Rattle.wire.proofs.Facts.{payload-fits, sub-pattern, unsub-pattern, read-key, write-key, consumed-fits, fixes-kind}
+use Rattle.wire.proofs.Facts.{payload-fits, sub-pattern, unsub-pattern, read-key, write-key, consumed-fits}
+use Rattle.wire.proofs.Facts.{fixes-kind}
 use Rattle.server.specs.Lawful.{Fixes, ValidPattern, ValidContent, ValidAction, Lawful}
 use Rattle.infod3.specs.Infod3.{infod3}
 
@@ -46,6 +48,9 @@ lawful =
       consumes = λ k l s n r e. consumed-fits k s n l r e;
       reads = λ k l s n a e.
           let q = received-reading k l s n (command (plain a)) e in
-          record { content = valid-content k (Framing.message k s) a q; short = payload-fits k (Framing.message k s) a q };
+          record {
+            content = valid-content k (Framing.message k s) a q;
+            short = payload-fits k (Framing.message k s) a q;
+          };
       error-fits = error-fits;
     }

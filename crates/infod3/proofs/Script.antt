@@ -1,5 +1,5 @@
--- Document 01's script program as a function from its standard input to its standard output, and the paper's script computed: whole input,
--- whole output.
+-- Document 01's script program as a function from its standard input to its standard output, and the paper's script
+-- computed: whole input, whole output.
 use Prim.Native.Nat.{ℕ, _+_, _-_}
 use Prim.Native.String.{String}
 use mathlib.Core.Path.{_≡_, refl}
@@ -52,7 +52,8 @@ unfoldable pub printed : List Delivery → Bytes
 printed [] = []
 printed (d ∷ ds) = ((48 + d .0) ∷ 32 ∷ d .1) ++ printed ds
 
--- N 2, S 1,024, Q 1,024, R 256; slots 0 and 1 are opened in form 1; after each line all messages are taken, slot 0 first
+-- N 2, S 1,024, Q 1,024, R 256; slots 0 and 1 are opened in form 1; after each line all messages are taken, slot 0
+-- first
 unfoldable pub program : Bytes → Bytes
 program input =
     printed
@@ -96,7 +97,8 @@ unfolding definitions session-definitions linesOf fed printed program text
     decimal allDigits numberFrom version keyed byCount payloadFor payloadOf begun lineOf
     fitting helloOf patternOf readOf writtenOf writeOf emptyOf commandOf meant binary textLine decodedIn received
     isEscaped escape escapes quote Quoting.decimal rowIn rowOf
-    Forms.valueOf Forms.valueField Forms.numberFields Forms.fields Forms.ending Forms.line Forms.form Forms.encoded Forms.written
+    Forms.valueOf Forms.valueField Forms.numberFields Forms.fields Forms.ending Forms.line Forms.form Forms.encoded
+    Forms.written
     Matching.more Matching.andThen Matching.orElse Matching.upto Matching.single Matching.simpleM
     Matching.elemM Matching.seqM Matching.branchM
 script-right = refl

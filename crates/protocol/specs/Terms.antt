@@ -1,5 +1,6 @@
--- The protocol's terms (documents 000 and 01): what a client says, what the server says, and how both stand as an ID and a payload.
--- `Protocol` is what other crates define of it: reading, writing and matching. The simple server is defined over any of them.
+-- The protocol's terms (documents 000 and 01): what a client says, what the server says, and how both stand as an ID
+-- and a payload. `Protocol` is what other crates define of it: reading, writing and matching. The simple server is
+-- defined over any of them.
 use Prim.Native.Nat.{ℕ, _+_}
 use mathlib.Core.List.{List, [], _∷_, _++_}
 use mathlib.Core.Bool.{Bool}

@@ -2,13 +2,14 @@
 use mathlib.Core.Path.{_≡_, refl, _∙_}
 use mathlib.Core.List.{List}
 use mathlib.Core.Option.{Option, none, some}
-use Prim.Native.Nat.{ℕ, _+_, _-_, _≤_, _<_}
+use Prim.Native.Nat.{ℕ, zero, suc, _+_, _-_, _≤_, _<_}
 use native.Mathlib.Omega.{arith}
 use lib.ListN.{length, drop, take, drop-of-length-le}
 use lib.Seq.{drop-cons}
+use borrow.Author.Tests.{ne-eqb}
 use Rattle.octets.specs.Octets.{Bytes}
 use Rattle.text.specs.Fields.{word, afterWord, Field, fields}
-use Rattle.text.specs.Payload.{payloadFor}
+use Rattle.text.specs.Payload.{onePayload, noPayload, payloadFor}
 use Rattle.text.specs.Line.{made, payloadOf, ofPayload, ofId, begun, blank, refused, lineOf}
 use Rattle.text.specs.PayloadPost.{BuildsLine, Builds, builtAs}
 use Rattle.text.specs.FieldPost.{Skipped, Spelled}
@@ -23,6 +24,42 @@ use Rattle.text.specs.Table.{namedOf}
 use Rattle.text.specs.declared.words.Named.the-variants.{Id, Unknown as NoId}
 
 -- ---- payloads by ID
+
+-- SUB, UNSUB and READ
+pub payloadFor-one : (id : ℕ) (fs : List Field) → (id ≡ 0 → ⊥) → id < 4 → payloadFor id fs ≡ onePayload fs
+unfolding payloadFor
+payloadFor-one zero fs h l = absurd (h refl)
+payloadFor-one (suc zero) fs h l = refl
+payloadFor-one (suc (suc zero)) fs h l = refl
+payloadFor-one (suc (suc (suc zero))) fs h l = refl
+payloadFor-one (suc (suc (suc (suc id)))) fs h l = absurd (omega arith)
+
+-- BEGIN and COMMIT
+pub payloadFor-none : (id : ℕ) (fs : List Field) → 4 ≤ id → (id ≡ 4 → ⊥) → id < 7 → payloadFor id fs ≡ noPayload fs
+unfolding payloadFor
+payloadFor-none zero fs h n l = absurd (omega arith)
+payloadFor-none (suc zero) fs h n l = absurd (omega arith)
+payloadFor-none (suc (suc zero)) fs h n l = absurd (omega arith)
+payloadFor-none (suc (suc (suc zero))) fs h n l = absurd (omega arith)
+payloadFor-none (suc (suc (suc (suc zero)))) fs h n l = absurd (n refl)
+payloadFor-none (suc (suc (suc (suc (suc zero))))) fs h n l = refl
+payloadFor-none (suc (suc (suc (suc (suc (suc zero)))))) fs h n l = refl
+payloadFor-none (suc (suc (suc (suc (suc (suc (suc id))))))) fs h n l = absurd (omega arith)
+
+-- IDs that no command has
+pub payloadFor-other : (id : ℕ) (fs : List Field) → 7 ≤ id → (id ≡ 7 → ⊥) → payloadFor id fs ≡ none
+unfolding payloadFor
+payloadFor-other id fs h n =
+    simp (
+      ne-eqb id 0 (λ e. omega arith),
+      ne-eqb id 1 (λ e. omega arith),
+      ne-eqb id 2 (λ e. omega arith),
+      ne-eqb id 3 (λ e. omega arith),
+      ne-eqb id 4 (λ e. omega arith),
+      ne-eqb id 5 (λ e. omega arith),
+      ne-eqb id 6 (λ e. omega arith),
+      ne-eqb id 7 n,
+    )
 
 -- two rules that agree on every list of fields
 pub payloadOf-same : (f g : List Field → Option Bytes) → ((fs : List Field) → f fs ≡ g fs) → (s : Bytes)

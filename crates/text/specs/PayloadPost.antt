@@ -1,6 +1,7 @@
 -- What the functions on payloads ensure. A place in a line is an index; `drop at line` is what stands from there on.
 use mathlib.Core.Path.{_≡_}
 use mathlib.Core.List.{List, [], _∷_}
+use mathlib.Core.Bool.{Bool, cond}
 use mathlib.Core.Option.{Option, none, some}
 use Prim.Native.Nat.{ℕ, _+_, _≤_}
 use lib.ListN.{length, drop}
@@ -9,7 +10,7 @@ use Rattle.octets.specs.Octets.{Bytes}
 use Rattle.text.specs.Fields.{Field, bytesOf}
 use Rattle.text.specs.Fields.{ended, field, next}
 use Rattle.text.specs.Line.{payloadOf}
-use Rattle.text.specs.Payload.{byCount, notTwo, version, helloPayload}
+use Rattle.text.specs.Payload.{byCount, notTwo, theField, version, helloPayload}
 use Rattle.protocol.specs.declared.Refusal.the-variants.{Parameter}
 use Rattle.text.specs.declared.payloads.Number.{Number}
 use Rattle.text.specs.declared.payloads.Number.the-variants.{Is, Bad as Bad2}
@@ -58,6 +59,10 @@ BuildsLine h line at buf r buf′ = Builds (payloadOf h (drop at line)) (length 
 -- what follows the key in a WRITE's payload
 abbrev pub valuePayload : List Field → Option (Bytes)
 valuePayload = byCount (some []) (λ v. some (0 ∷ bytesOf v)) notTwo
+
+-- one field, or none where it is optional
+abbrev pub singlePayload : Bool → List Field → Option Bytes
+singlePayload optional = byCount (cond optional (some []) none) theField notTwo
 
 -- what is answered for a payload
 abbrev pub builtAs : ℕ → Built → Translated

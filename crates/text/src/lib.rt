@@ -41,14 +41,11 @@ fn build(id: u8, line: &[u8], at: usize, buf: &mut [u8]) -> Translated
         (now (buf .entry)) r (now (buf .exit)) ⌝ }
 {
     match id {
-        0 => answer(0, payloads::hello_fields(line, at, buf)),
-        1 => answer(1, payloads::one_field(line, at, buf)),
-        2 => answer(2, payloads::one_field(line, at, buf)),
-        3 => answer(3, payloads::one_field(line, at, buf)),
-        4 => answer(4, payloads::write_fields(line, at, buf)),
-        5 => answer(5, payloads::no_field(line, at)),
-        6 => answer(6, payloads::no_field(line, at)),
-        7 => answer(7, payloads::optional_field(line, at, buf)),
+        0 => answer(id, payloads::hello_fields(line, at, buf)),
+        1 | 2 | 3 => answer(id, payloads::one_field(line, at, buf, false)),
+        4 => answer(id, payloads::write_fields(line, at, buf)),
+        5 | 6 => answer(id, payloads::no_field(line, at)),
+        7 => answer(id, payloads::one_field(line, at, buf, true)),
         _ => Translated::Refused(Refusal::Parameter),
     }
 }

@@ -4,10 +4,11 @@ ghost use mathlib.Core.List.{List};
 ghost use Prim.Native.Nat.{ℕ, _+_, _-_, _≤_, _<_};
 ghost use lib.ListN.{length, drop};
 ghost use Rattle.text.specs.Fields.{fields};
-ghost use Rattle.text.specs.Payload.{numberFrom, helloPayload, onePayload, writePayload};
-ghost use Rattle.text.specs.Payload.{noPayload, pingPayload};
+ghost use Rattle.text.specs.Payload.{numberFrom, helloPayload, writePayload};
+ghost use Rattle.text.specs.Payload.{noPayload};
 ghost use Rattle.text.specs.Line.{made};
-ghost use Rattle.text.specs.PayloadPost.{numberOf, VersionAt, valuePayload, Builds};
+ghost use Rattle.text.specs.PayloadPost.{numberOf, VersionAt, valuePayload, singlePayload};
+ghost use Rattle.text.specs.PayloadPost.{Builds};
 ghost use Rattle.text.specs.PayloadPost.{BuildsLine};
 use crate::fields::Found;
 use crate::fields::is_ended;
@@ -96,36 +97,21 @@ pub fn no_field(line: &[u8], at: usize) -> Built
     }
 }
 
-// One field: SUB, UNSUB, READ.
-pub fn one_field(line: &[u8], at: usize, buf: &mut [u8]) -> Built
+// One field: SUB, UNSUB, READ; or, where it is optional, one or none: PING.
+pub fn one_field(line: &[u8], at: usize, buf: &mut [u8], optional: bool) -> Built
     requires { ⌜ at ≤ length (now line) ⌝ }
-    ensures { λ r. ⌜ BuildsLine onePayload (now (line .entry)) at
+    ensures { λ r. ⌜ BuildsLine (singlePayload optional) (now (line .entry)) at
         (now (buf .entry)) r (now (buf .exit)) ⌝ }
 {
     let f = next_field(line, at, buf, 0);
     match f {
-        Found::Nothing => Built::Faulty,
-        Found::Faulty => Built::Faulty,
-        Found::Field { len, next, nul: _ } => {
-            let last = is_ended(line, next);
-            if last {
-                Built::Payload(len)
+        Found::Nothing => {
+            if optional {
+                Built::Payload(0)
             } else {
                 Built::Faulty
             }
         }
-    }
-}
-
-// One field or none: PING.
-pub fn optional_field(line: &[u8], at: usize, buf: &mut [u8]) -> Built
-    requires { ⌜ at ≤ length (now line) ⌝ }
-    ensures { λ r. ⌜ BuildsLine pingPayload (now (line .entry)) at
-        (now (buf .entry)) r (now (buf .exit)) ⌝ }
-{
-    let f = next_field(line, at, buf, 0);
-    match f {
-        Found::Nothing => Built::Payload(0),
         Found::Faulty => Built::Faulty,
         Found::Field { len, next, nul: _ } => {
             let last = is_ended(line, next);

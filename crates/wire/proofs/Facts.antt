@@ -128,6 +128,25 @@ received-kind k s = by (isWhole k (messageLength k s)) refl
 pub fixes-kind : (k : Kind) (s : Bytes) (n : ℕ) (l : Kind) (r : Reading) → received k s ≡ whole n l r → Fixes k l
 fixes-kind k s n l r e = rw e at (received-kind k s)
 
+-- what is received of an input: the first message's length, the kind that it fixes, and its reading
+abbrev Says : Kind → Bytes → Cut → Type 0
+Says k s incomplete = Unit {0}
+Says k s (whole n l r) = (n ≡ messageLength k s) × (l ≡ kindOf k s) × (r ≡ reading k (Framing.message k s))
+
+received-says : (k : Kind) (s : Bytes) → Says k s (received k s)
+unfolding received
+received-says k s = by (isWhole k (messageLength k s))
+  where
+    by : (b : Bool)
+        → Says k s (cond b (whole (messageLength k s) (kindOf k s) (reading k (Framing.message k s))) incomplete)
+    by true = (refl, refl, refl)
+    by false = tt
+
+-- so what holds of every reading holds of what is received
+pub received-reading : (k : Kind) (s : Bytes) (n : ℕ) (l : Kind) (r : Reading) → received k s ≡ whole n l r
+    → r ≡ reading k (Framing.message k s)
+received-reading k s n l r e = (rw e at (received-says k s)) .2
+
 -- ---- an over-long line
 
 lineEnd-before : (s : Bytes) (i : ℕ) → i < lineEnd s → endsLine (getD s i 0) ≡ false

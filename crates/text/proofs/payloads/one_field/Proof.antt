@@ -1,8 +1,8 @@
--- `text::payloads::one_field`: a field, and nothing after it.
+-- `text::payloads::one_field`: nothing, or a field and nothing after it.
+use borrow.Author.Needs.{needs}
 use mathlib.Core.Path.{sym, _∙_}
 use lib.ListN.{drop}
-use Rattle.text.proofs.PayloadLaws.{pay-none, pay-bad, one-built, one-more}
-use borrow.Author.Needs.{needs}
+use Rattle.text.proofs.PayloadLaws.{nothing, pay-none, pay-bad, one-built, one-more}
 use Rattle.text.proofs.payloads.one_field.Statement.{statement}
 use Rattle.text.proofs.payloads.one_field.Tie as tie
 
@@ -11,22 +11,36 @@ is-ended-requires c κs =
     (rw (c .before .f .given .1) at (c .before .before .before .before .before .next-field .ensures)) .within
 
 returns : tie.Need-returns
-returns c = pay-none _ _ _ (drop (c .before .before .before .before .before .before .before .before .args .at)
-    (c .before .before .before .before .before .before .before .before .args .line .now))
-    ((rw (c .enum-told .given .1) at (c .before .before .before .before .next-field .ensures)) .0)
+returns c =
+    let p = rw (c .before .enum-told .given .1) at (c .before .before .before .before .before .next-field .ensures) in
+    rw (c .if1 .taken) (nothing _ _ (drop (c .before .before .before .before .before .before .before .before .before
+    .args .at) (c .before .before .before .before .before .before .before .before .before .args .line .now)) _ _ _
+    (p .0) (p .1))
 
 returns-2 : tie.Need-returns-2
-returns-2 c = pay-bad _ _ _ (drop (c .before .before .before .before .before .before .before .before .args .at)
+returns-2 c =
+    let p = rw (c .before .enum-told .given .1) at (c .before .before .before .before .before .next-field .ensures) in
+    rw (c .if1 .left) (pay-none _ _ _ (drop (c .before .before .before .before .before .before .before .before .before
+    .args .at) (c .before .before .before .before .before .before .before .before .before .args .line .now))
+    (p .0))
+
+returns-3 : tie.Need-returns-3
+returns-3 c =
+    pay-bad _ _ _ (drop (c .before .before .before .before .before .before .before .before .args .at)
     (c .before .before .before .before .before .before .before .before .args .line .now))
     (rw (c .enum-told2 .given .1) at (c .before .before .before .before .next-field .ensures))
 
-returns-3 : tie.Need-returns-3
-returns-3 c = one-built (rw (c .before .before .before .f .given .1) at (c .before .before .before .before .before
-    .before .before .next-field .ensures)) _ (sym (c .before .is-ended .ensures) ∙ c .if1 .taken)
-
 returns-4 : tie.Need-returns-4
-returns-4 c = one-more (rw (c .before .before .before .f .given .1) at (c .before .before .before .before .before
-    .before .before .next-field .ensures)) _ (sym (c .before .is-ended .ensures) ∙ c .if1 .left)
+returns-4 c =
+    one-built (rw (c .before .before .before .f .given .1) at
+    (c .before .before .before .before .before .before .before .next-field .ensures)) _
+    (sym (c .before .is-ended .ensures) ∙ c .if2 .taken)
+
+returns-5 : tie.Need-returns-5
+returns-5 c =
+    one-more (rw (c .before .before .before .f .given .1) at
+    (c .before .before .before .before .before .before .before .next-field .ensures)) _
+    (sym (c .before .is-ended .ensures) ∙ c .if2 .left)
 
 pub one-field-spec : {M : Type 1} → statement M
 one-field-spec =
@@ -44,4 +58,6 @@ one-field-spec =
     (λ c. search needs)
     returns-3
     (λ c. search needs)
-    returns-4)
+    returns-4
+    (λ c. search needs)
+    returns-5)

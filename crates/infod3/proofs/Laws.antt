@@ -1,36 +1,16 @@
 -- What the simple server asks of reading and writing holds of infod3.
-use mathlib.Core.Path.{_≡_, refl, sym, ap, _∙_}
-use mathlib.Core.Bool.{Bool, true, false, cond}
-use mathlib.Core.Option.{Option}
-use Prim.Native.Nat.{ℕ}
-use native.Mathlib.Omega.{arith}
-use lib.ListN.{length}
+use mathlib.Core.Path.{_≡_, sym}
 use Rattle.octets.specs.Octets.{Bytes}
 use Rattle.protocol.specs.declared.Kind.{Kind}
-use Rattle.protocol.specs.Terms.{Action, hello, sub, unsub, read, write, ping, plain, Reading, command}
-use Rattle.protocol.specs.Terms.{Cut, incomplete, whole}
+use Rattle.protocol.specs.Terms.{Action, hello, sub, unsub, read, write, ping, plain, command}
 use Rattle.pattern.specs.Syntax.{valid}
 use Rattle.message.proofs.Theorems.{error-fits}
-use Rattle.framing.specs.Framing.{kindOf, messageLength}
 use Rattle.framing.specs.Framing as Framing
-use Rattle.command.specs.Sound.{GoodPattern}
-use Rattle.wire.specs.Received.{reading, isWhole, received}
+use Rattle.wire.specs.Received.{reading}
 use Rattle.wire.proofs.Facts.{payload-fits, sub-pattern, unsub-pattern, read-key, write-key, consumed-fits}
-use Rattle.wire.proofs.Facts.{fixes-kind}
+use Rattle.wire.proofs.Facts.{fixes-kind, received-reading}
 use Rattle.server.specs.Lawful.{Fixes, ValidPattern, ValidContent, ValidAction, Lawful}
 use Rattle.infod3.specs.Infod3.{infod3}
-
--- what a whole message says is the reading of the bytes that were cut
-received-reading : (k l : Kind) (s : Bytes) (n : ℕ) (r : Reading) → received k s ≡ whole n l r
-    → reading k (Framing.message k s) ≡ r
-unfolding received
-received-reading k l s n r e = by (isWhole k (messageLength k s)) e
-  where
-    by : (b : Bool)
-        → cond b (whole (messageLength k s) (kindOf k s) (reading k (Framing.message k s))) incomplete ≡ whole n l r
-        → reading k (Framing.message k s) ≡ r
-    by true q = cc
-    by false q = let z : _≡_ {A = ℕ} 0 1 = cc in absurd (omega arith)
 
 module _ (k : Kind) (m : Bytes) where
   valid-content : (a : Action) → reading k m ≡ command (plain a) → ValidContent valid a
@@ -47,7 +27,7 @@ lawful =
       fixes = λ k l s n r e. let f = fixes-kind k s n l r e in record { keeps = f .keeps; fixed = f .fixed };
       consumes = λ k l s n r e. consumed-fits k s n l r e;
       reads = λ k l s n a e.
-          let q = received-reading k l s n (command (plain a)) e in
+          let q = sym (received-reading k s n l (command (plain a)) e) in
           record {
             content = valid-content k (Framing.message k s) a q;
             short = payload-fits k (Framing.message k s) a q;

@@ -1,0 +1,87 @@
+-- What the functions of this crate ask and ensure, in the terms of the simple server: whether a command is refused
+-- with 102 at its turn (`refuses`), and whether any command of a commit is (`refusesAny`). Document 01, COMMIT: "If any
+-- WRITE or SUB would be refused at its turn, none is done and the answer is 102."
+use Prim.Native.Nat.{ℕ, _≤_}
+use mathlib.Core.Path.{_≡_}
+use mathlib.Core.Bool.{Bool, true, false}
+use lib.ListN.{length}
+use Rattle.octets.specs.Octets.{Bytes}
+use Rattle.protocol.specs.Terms.{Action, sub}
+use Rattle.server.specs.Store.{Store}
+use Rattle.server.specs.Patterns.{Patterns}
+use Rattle.server.specs.Step.{storeAfter, patternsAfter, refuses, storeAfterAll}
+use Rattle.recording.specs.Command.{writeFrom, actionOf, commandFine}
+use Rattle.recording.specs.Region.{recordingFine}
+use Rattle.recording.specs.Turn.{earlier}
+use Rattle.recording.specs.Contracts.{RowAt, Until}
+use Rattle.store.specs.Region.{roomOf, storeFine, storeOf}
+use Rattle.subscriptions.specs.Region.{patternsOf, subscriptionsFine}
+use Rattle.commit.specs.declared.Tally.{Tally}
+use Rattle.commit.specs.Tally.{TallyOf}
+
+-- the store as the command at an offset of the recording finds it: with the earlier commands done
+unfoldable pub storeBefore : Bytes → Bytes → ℕ → Store
+storeBefore st r at = storeAfterAll (earlier r at) (storeOf st)
+
+-- ---- what is asked
+
+-- a store, a recording and a client's subscriptions
+pub record Tried (st r q : Bytes) : Type 0 where
+  pub store-fine : storeFine st ≡ true
+  pub recording-fine : recordingFine r ≡ true
+  pub patterns-fine : subscriptionsFine q ≡ true
+
+-- a store and an offset of a recording
+pub record Place (st r : Bytes) (at : ℕ) : Type 0 where
+  pub store-fine : storeFine st ≡ true
+  pub until : Until r at
+
+-- a store and a payload that a WRITE can have
+pub record Writing (st p : Bytes) : Type 0 where
+  pub store-fine : storeFine st ≡ true
+  pub short : length p ≤ 65535
+
+-- such a payload at an offset of a recording, with the tally of the store there
+pub record WriteTurn (st r : Bytes) (at : ℕ) (p : Bytes) (t : Tally) : Type 0 where
+  pub place : Place st r at
+  pub short : length p ≤ 65535
+  pub tally : TallyOf (roomOf st) (storeBefore st r at) t
+
+-- a client's subscriptions, and a command that is no WRITE
+pub record PatternTurn (q : Bytes) (id : ℕ) (p : Bytes) : Type 0 where
+  pub patterns-fine : subscriptionsFine q ≡ true
+  pub known : commandFine id (length p) ≡ true
+  pub other : id ≡ 4 → ⊥
+
+-- a command's row at an offset of a recording, with the tally of the store there and a client's subscriptions
+pub record Turn (st r : Bytes) (at : ℕ) (q : Bytes) (t : Tally) : Type 0 where
+  pub store-fine : storeFine st ≡ true
+  pub row : RowAt r at
+  pub patterns-fine : subscriptionsFine q ≡ true
+  pub tally : TallyOf (roomOf st) (storeBefore st r at) t
+
+-- ---- what is ensured
+
+-- The command a is tried out on the store s and the subscriptions q: t says whether it is refused; where it is not,
+-- t is the tally of the store after it, and q′ holds the patterns after it.
+pub record Taken (S : ℕ) (a : Action) (s : Store) (q q′ : Bytes) (t : Tally) : Type 0 where
+  pub refused : t .refused ≡ refuses S a s (patternsOf q)
+  pub tally : t .refused ≡ false → TallyOf S (storeAfter a s) t
+  pub patterns : t .refused ≡ false → patternsOf q′ ≡ patternsAfter true a (patternsOf q)
+  pub patterns-fine : subscriptionsFine q′ ≡ true
+
+-- a WRITE of the payload is tried out, whatever the subscriptions are
+pub record WriteTaken (S : ℕ) (p : Bytes) (s : Store) (t : Tally) : Type 0 where
+  pub value : (q : Bytes) → subscriptionsFine q ≡ true → Taken S (writeFrom p) s q q t
+
+-- a command that is no WRITE is tried out, whatever the store is
+pub record PatternTaken (id : ℕ) (p : Bytes) (t : Tally) (q q′ : Bytes) (r : Tally) : Type 0 where
+  pub value : (S : ℕ) (s : Store) → TallyOf S s t → Taken S (actionOf id p) s q q′ r
+
+-- whether a WRITE of the payload is refused, whatever the patterns are
+pub record WriteRefused (st p : Bytes) (b : Bool) : Type 0 where
+  pub value : (ps : Patterns) → b ≡ refuses (roomOf st) (writeFrom p) (storeOf st) ps
+
+-- whether a SUB of the pattern is refused, whatever the store is
+pub record SubRefused (q p : Bytes) (b : Bool) : Type 0 where
+  pub value : (S : ℕ) (s : Store) → b ≡ refuses S (sub p) s (patternsOf q)

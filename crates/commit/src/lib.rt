@@ -1,0 +1,154 @@
+// Whether a COMMIT, a WRITE or a SUB is refused with 102, decided over shared slices before anything
+// changes. A COMMIT is tried out: its commands are gone through in order, with a tally of what the
+// store would charge and hold, and with a copy of the client's subscriptions. Internal layer: what
+// a function requires is its callers' to show.
+mod exchange;
+
+use exchange::exchanged;
+ghost use mathlib.Core.Path.{_≡_};
+ghost use mathlib.Core.Bool.{true};
+ghost use Prim.Native.Nat.{_+_};
+ghost use lib.ListN.{drop};
+ghost use Rattle.server.specs.Store.{lookup};
+ghost use Rattle.server.specs.Step.{refusesAny};
+ghost use Rattle.recording.specs.Command.{commandAt};
+ghost use Rattle.recording.specs.Region.{rowsOf, recorded};
+ghost use Rattle.recording.specs.Turn.{valueIn};
+ghost use Rattle.store.specs.Region.{roomOf, storeOf};
+ghost use Rattle.subscriptions.specs.Region.{patternsOf, subscriptionsFine};
+ghost use Rattle.commit.specs.Contracts.{storeBefore, Tried, Place, Writing};
+ghost use Rattle.commit.specs.Contracts.{WriteTurn, PatternTurn, Turn};
+ghost use Rattle.commit.specs.Contracts.{WriteTaken, PatternTaken, Taken};
+ghost use Rattle.commit.specs.Contracts.{WriteRefused, SubRefused};
+
+// What the commands up to a turn come to: whether one is refused, and where none is, what the store
+// then charges and how many entries it has.
+struct Tally {
+    refused: bool,
+    used: usize,
+    count: usize,
+}
+
+// The body that the key has at the turn of the command at the offset, a part of the recording or of
+// the store.
+fn body_at_turn<'a>(store: &'a [u8], recording: &'a [u8], at: usize, key: &[u8]) -> &'a [u8]
+    requires { ⌜ Place (now store) (now recording) at ⌝ }
+    ensures { λ b. ⌜ valueIn (now (key .entry)) (now b) ≡ lookup (now (key .entry))
+        (storeBefore (now (store .entry)) (now (recording .entry)) at) ⌝ }
+{
+    let stored = store::look_up(store, key);
+    recording::turn_finds(recording, at, stored, key)
+}
+
+// The tally after the WRITE of a payload at the offset. It is refused if the store would break a
+// limit.
+fn write_turn<'a>(
+    store: &'a [u8],
+    recording: &'a [u8],
+    at: usize,
+    payload: &[u8],
+    t: Tally,
+) -> Tally
+    requires { ⌜ WriteTurn (now store) (now recording) at (now payload) t ⌝ }
+    ensures { λ r. ⌜ WriteTaken (roomOf (now (store .entry))) (now (payload .entry))
+        (storeBefore (now (store .entry)) (now (recording .entry)) at) r ⌝ }
+{
+    let key = octets::first_nul(payload);
+    let body = body_at_turn(store, recording, at, &payload[..key]);
+    exchanged(store.len() - 8, t, key, body.len(), payload.len())
+}
+
+// Whether a SUB is refused: sixteen patterns are there, and it is none of them.
+pub fn sub_refused(patterns: &[u8], pattern: &[u8]) -> bool
+    requires { ⌜ subscriptionsFine (now patterns) ≡ true ⌝ }
+    ensures { λ b. ⌜ SubRefused (now (patterns .entry)) (now (pattern .entry)) b ⌝ }
+{
+    if subscriptions::count(patterns) < 16 {
+        return false;
+    }
+    !subscriptions::is_held(patterns, pattern)
+}
+
+// The tally after a command that is no WRITE. A SUB that is not refused, and an UNSUB, change the
+// patterns.
+fn pattern_turn(patterns: &mut [u8], id: u8, pattern: &[u8], t: Tally) -> Tally
+    requires { ⌜ PatternTurn (now patterns) id (now pattern) ⌝ }
+    ensures { λ r. ⌜ PatternTaken id (now (pattern .entry)) t
+        (now (patterns .entry)) (now (patterns .exit)) r ⌝ }
+{
+    if id == 1 {
+        if sub_refused(&patterns[..], pattern) {
+            return Tally {
+                refused: true,
+                used: t.used,
+                count: t.count,
+            };
+        }
+        subscriptions::add(patterns, pattern);
+        return t;
+    }
+    if id == 2 {
+        subscriptions::remove(patterns, pattern);
+        return t;
+    }
+    t
+}
+
+// The tally after the command at the offset.
+fn turn<'a>(store: &'a [u8], recording: &'a [u8], at: usize, patterns: &mut [u8], t: Tally) -> Tally
+    requires { ⌜ Turn (now store) (now recording) at (now patterns) t ⌝ }
+    ensures { λ r. ⌜ Taken (roomOf (now (store .entry)))
+        (commandAt (drop at (rowsOf (now (recording .entry)))))
+        (storeBefore (now (store .entry)) (now (recording .entry)) at)
+        (now (patterns .entry)) (now (patterns .exit)) r ⌝ }
+{
+    let id = recording::id_at(recording, at);
+    let payload = recording::payload_at(recording, at);
+    if id == 4 {
+        return write_turn(store, recording, at, payload, t);
+    }
+    pattern_turn(patterns, id, payload, t)
+}
+
+// Whether a COMMIT of the recording is refused: whether any of its commands would be at its turn.
+// `patterns` is a copy of the client's subscriptions; what it holds afterwards is open.
+pub fn refuses_any<'a>(store: &'a [u8], recording: &'a [u8], patterns: &mut [u8]) -> bool
+    requires { ⌜ Tried (now store) (now recording) (now patterns) ⌝ }
+    ensures { λ b. ⌜ b ≡ refusesAny
+        (roomOf (now (store .entry))) (recorded (now (recording .entry)))
+        (storeOf (now (store .entry))) (patternsOf (now (patterns .entry))) ⌝ }
+{
+    let n = recording::count(recording);
+    let mut t = Tally {
+        refused: false,
+        used: store::used(store),
+        count: store::count(store),
+    };
+    let mut at = 0;
+    let mut i = 0;
+    while i < n {
+        t = turn(store, recording, at, patterns, t);
+        if t.refused {
+            return true;
+        }
+        at += recording::row_size(recording, at);
+        i += 1;
+    }
+    false
+}
+
+// Whether a WRITE of the payload is refused: the store after it would break a limit.
+pub fn write_refused(store: &[u8], payload: &[u8]) -> bool
+    requires { ⌜ Writing (now store) (now payload) ⌝ }
+    ensures { λ b. ⌜ WriteRefused (now (store .entry)) (now (payload .entry)) b ⌝ }
+{
+    let key = octets::first_nul(payload);
+    let body = store::look_up(store, &payload[..key]);
+    let t = Tally {
+        refused: false,
+        used: store::used(store),
+        count: store::count(store),
+    };
+    let r = exchanged(store.len() - 8, t, key, body.len(), payload.len());
+    r.refused
+}

@@ -14,6 +14,7 @@ use Rattle.command.specs.declared.Command.{Command}
 use Rattle.command.specs.declared.Command.the-variants.{Hello, Sub, Unsub, Read, Write, Begin, Commit, Ping}
 use Rattle.command.specs.declared.Command.the-variants.{Refused}
 
+-- whether there is no payload
 abbrev pub isEmpty : Bytes → Bool
 isEmpty [] = true
 isEmpty (b ∷ p) = false

@@ -10,7 +10,9 @@ mod region;
 mod taking;
 
 pub use owing::is_overflown;
+pub use owing::owe;
 pub use owing::settle;
+pub use owing::shut_with;
 pub use region::clear;
 pub use region::is_fine;
 pub use taking::first_length;

@@ -46,7 +46,8 @@ unfoldable pub closed : Bytes → Scan
 closed [] = scanned [] []
 closed (c ∷ s) = cond (eqb c 32) (scanned [] (c ∷ s)) malformed
 
--- what follows an opening quote: it runs to the next quote, and in it a backslash takes three octal digits
+-- `quoted` is what follows an opening quote: it runs to the next quote, and in it a backslash takes three octal
+-- digits, which `escaped` reads
 unfoldable mutual
   pub quoted : Bytes → Scan
   quoted [] = malformed
@@ -63,6 +64,7 @@ pub data Field : Type 0 where
   plain : Bytes → Field
   inQuotes : Bytes → Field
 
+-- the bytes that a field stands for
 abbrev pub bytesOf : Field → Bytes
 bytesOf (plain s) = s
 bytesOf (inQuotes s) = s
@@ -73,6 +75,7 @@ pub data Next : Type 0 where
   faulty : Next
   field : Field → Bytes → Next
 
+-- a quoted string as the next field
 abbrev pub ofScan : Scan → Next
 ofScan malformed = faulty
 ofScan (scanned s rest) = field (inQuotes s) rest

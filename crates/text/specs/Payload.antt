@@ -16,6 +16,7 @@ unfoldable pub decimal : ℕ → Bytes → ℕ
 decimal n [] = n
 decimal n (c ∷ s) = decimal (n * 10 + (c - 48)) s
 
+-- whether every byte is a decimal digit
 unfoldable pub allDigits : Bytes → Bool
 allDigits [] = true
 allDigits (c ∷ s) = isDigit 10 c && allDigits s
@@ -39,12 +40,15 @@ byCount a f g (x ∷ []) = f x
 byCount a f g (x ∷ y ∷ []) = g x y
 byCount a f g (x ∷ y ∷ z ∷ r) = none
 
+-- a field that is surplus
 abbrev pub notOne : Field → Option Bytes
 notOne x = none
 
+-- a second field that is surplus
 abbrev pub notTwo : Field → Field → Option Bytes
 notTwo x y = none
 
+-- the bytes of the only field
 abbrev pub theField : Field → Option Bytes
 theField x = some (bytesOf x)
 

@@ -27,6 +27,7 @@ rows =
 abbrev pub noRow : Row
 noRow = record { word = []; length = 0; letter = 0; id = 0 }
 
+-- the row at an index
 abbrev pub rowAt : ℕ → Row
 rowAt i = getD rows i noRow
 

@@ -63,5 +63,6 @@ payloadIn Stream m buf n = take n (drop 1 m)
 payloadIn Framed m buf n = take n (drop 3 m)
 payloadIn Text m buf n = take n buf
 
+-- the same, where the first byte of a stream decides
 abbrev pub payloadPart : Kind → Bytes → Bytes → ℕ → Bytes
 payloadPart k m buf n = payloadIn (kindOf k m) m buf n

@@ -1,0 +1,19 @@
+use Rattle.memory.specs.Layout.{sizesOf}
+use borrow.Author.Needs.{needs}
+use Rattle.memory.proofs.header.record_room.Statement.{statement}
+use Rattle.memory.proofs.header.record_room.Tie as tie
+use Rattle.memory.proofs.header.record_room.Reads as reads
+use Rattle.memory.proofs.header.record_room.Lts as lts
+use Rattle.octets.proofs.u32_at.Reads as u32-at-reads
+
+-- src/header.rt:84:5
+u32-at-requires : tie.Need-u32-at-requires
+u32-at-requires c κs = search needs
+
+-- src/header.rt:80:1
+returns : tie.Need-returns
+unfolding sizesOf
+returns c = c .u32-at .ensures .value
+
+pub record-room-spec : {M : Type 1} → statement M
+record-room-spec = tie.close (tie.spec u32-at-requires returns)

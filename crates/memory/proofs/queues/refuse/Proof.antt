@@ -1,0 +1,60 @@
+-- `memory::queues::refuse` meets its contract.
+use Rattle.slot.specs.Image.{refused}
+use Rattle.memory.specs.Image.{slotIn, imageOf}
+use borrow.Author.Needs.{needs}
+use Rattle.memory.proofs.Lent.{Lent, up-to-slot, lent-within, open-used, lent-open}
+use Rattle.memory.proofs.Returned.{lent-changes}
+use Rattle.memory.proofs.queues.refuse.Statement.{statement}
+use Rattle.memory.proofs.queues.refuse.Tie as tie
+
+held : (c : tie.After-record-room)
+    → Lent (c .before .before .before .before .before .before .before .args .mem .now) (c .before .before .before .before .before .before .before .args .i) (c .before .before .before .before .slot-start .result) (c .before .before .slot-end .result)
+    (c .record-room .result)
+held c =
+    record {
+      in-slot = c .before .before .before .before .before .before .before .pre .in-slot;
+      start = c .before .before .before .before .slot-start .ensures;
+      end = c .before .before .slot-end .ensures;
+      room = c .record-room .ensures;
+    }
+
+slot-start-requires : tie.Need-slot-start-requires
+slot-start-requires c κs = up-to-slot (c .before .before .pre .in-slot)
+
+slot-end-requires : tie.Need-slot-end-requires
+slot-end-requires c κs = up-to-slot (c .before .before .before .before .pre .in-slot)
+
+record-room-requires : tie.Need-record-room-requires
+record-room-requires c κs = c .before .before .before .before .before .before .pre .in-slot .sound .headed .header
+
+sub-refuse : tie.Need-sub-refuse
+sub-refuse c = search needs
+
+part-refuse-start : tie.Need-part-refuse-start
+part-refuse-start c = search needs
+
+part-refuse-end : tie.Need-part-refuse-end
+part-refuse-end c = let h = lent-within (held (c)) in search needs
+
+refuse-requires : tie.Need-refuse-requires
+refuse-requires c κs = lent-open (held (c .before)) (c .before .before .before .before .before .before .before .before .pre .has-open)
+
+same-length : tie.Need-same-length
+same-length c = search needs
+
+returns : tie.Need-returns
+returns c = lent-changes (held (c .before .before .before .before)) (refused (c .before .before .before .before .before .before .before .before .before .before .before .args .refusal)) (open-used (slotIn (c .before .before .before .before .before .before .before .before .before .before .before .args .i) (imageOf (c .before .before .before .before .before .before .before .before .before .before .before .args .mem .now))) (c .before .before .before .before .before .before .before .before .before .before .before .pre .has-open)) (c .before .before .refuse .ensures)
+
+pub refuse-spec : {M : Type 1} → statement M
+refuse-spec =
+    tie.close
+    (tie.spec
+    slot-start-requires
+    slot-end-requires
+    record-room-requires
+    sub-refuse
+    part-refuse-start
+    part-refuse-end
+    refuse-requires
+    same-length
+    returns)

@@ -1,0 +1,61 @@
+-- `memory::recordings::record` meets its contract.
+use Rattle.recording.specs.Command.{actionOf}
+use Rattle.slot.specs.Image.{recorded}
+use Rattle.memory.specs.Image.{slotIn, imageOf}
+use borrow.Author.Needs.{needs}
+use Rattle.memory.proofs.Lent.{Lent, up-to-slot, lent-within, open-used}
+use Rattle.memory.proofs.Returned.{lent-recordable, lent-changes}
+use Rattle.memory.proofs.recordings.record.Statement.{statement}
+use Rattle.memory.proofs.recordings.record.Tie as tie
+
+held : (c : tie.After-record-room)
+    → Lent (c .before .before .before .before .before .before .before .before .args .mem .now) (c .before .before .before .before .before .before .before .before .args .i) (c .before .before .before .before .slot-start .result) (c .before .before .slot-end .result)
+    (c .record-room .result)
+held c =
+    record {
+      in-slot = c .before .before .before .before .before .before .before .before .pre .in-open .in-slot;
+      start = c .before .before .before .before .slot-start .ensures;
+      end = c .before .before .slot-end .ensures;
+      room = c .record-room .ensures;
+    }
+
+slot-start-requires : tie.Need-slot-start-requires
+slot-start-requires c κs = up-to-slot (c .before .before .before .pre .in-open .in-slot)
+
+slot-end-requires : tie.Need-slot-end-requires
+slot-end-requires c κs = up-to-slot (c .before .before .before .before .before .pre .in-open .in-slot)
+
+record-room-requires : tie.Need-record-room-requires
+record-room-requires c κs = c .before .before .before .before .before .before .before .pre .in-open .in-slot .sound .headed .header
+
+sub-record : tie.Need-sub-record
+sub-record c = search needs
+
+part-record-start : tie.Need-part-record-start
+part-record-start c = search needs
+
+part-record-end : tie.Need-part-record-end
+part-record-end c = let h = lent-within (held (c)) in search needs
+
+record-requires : tie.Need-record-requires
+record-requires c κs = lent-recordable (held (c .before)) (c .before .before .before .before .before .before .before .before .before .pre)
+
+same-length : tie.Need-same-length
+same-length c = search needs
+
+returns : tie.Need-returns
+returns c = lent-changes (held (c .before .before .before .before)) (recorded (actionOf (c .before .before .before .before .before .before .before .before .before .before .before .before .args .id) (c .before .before .before .before .before .before .before .before .before .before .before .before .args .payload .now))) (open-used (slotIn (c .before .before .before .before .before .before .before .before .before .before .before .before .args .i) (imageOf (c .before .before .before .before .before .before .before .before .before .before .before .before .args .mem .now))) (c .before .before .before .before .before .before .before .before .before .before .before .before .pre .in-open .has-open)) (c .before .before .«record» .ensures)
+
+pub record-spec : {M : Type 1} → statement M
+record-spec =
+    tie.close
+    (tie.spec
+    slot-start-requires
+    slot-end-requires
+    record-room-requires
+    sub-record
+    part-record-start
+    part-record-end
+    record-requires
+    same-length
+    returns)

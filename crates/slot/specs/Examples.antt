@@ -1,0 +1,39 @@
+-- Examples of what a step makes of a client: with room a message that is owed is queued at the step's end, without it the client is shut
+-- with 102; a shut client is owed nothing and stays as it is.
+use mathlib.Core.Path.{_≡_, refl}
+use mathlib.Core.Bool.{true, false}
+use mathlib.Core.List.{[], _∷_, _++_}
+use mathlib.Core.Option.{some, none}
+use Rattle.octets.specs.Number.{bigEndian}
+use Rattle.protocol.specs.Terms.{version, error, messagePayload}
+use Rattle.protocol.specs.declared.Kind.the-variants.{Packets}
+use Rattle.protocol.specs.declared.Refusal.the-variants.{Room, State}
+use Rattle.message.specs.Forms.{written, encoded, form}
+use Rattle.queue.specs.Rows.{row}
+use Rattle.queue.specs.Meaning.{kept, fits, owed as owedTo, keptRows}
+use Rattle.slot.specs.Image.{ClientImage, free, opened, owed, refused, settledBy, settled, notified, onClient, withQueue, withPatterns}
+
+-- a queue room of 1,024 bytes holds a VERSION
+settled-version : settled (owed 1024 version (opened Packets)) .queue .queued ≡ row (written Packets version)
+unfolding settled settledBy owed opened withQueue owedTo fits keptRows row bigEndian written encoded form messagePayload
+settled-version = refl
+
+-- one of 64 bytes does not: all 64 are kept back for the ERROR
+settled-full : settled (owed 64 version (opened Packets)) ≡ refused Room (opened Packets)
+unfolding settled settledBy owed opened withQueue owedTo fits refused row bigEndian written encoded form messagePayload
+settled-full = refl
+
+-- once shut, a client is not notified, and the end of a step leaves it as it is
+notified-refused : notified 1024 (97 ∷ []) 1 (refused State (withPatterns ((97 ∷ []) ∷ []) (opened Packets)))
+    ≡ refused State (opened Packets)
+unfolding notified refused withPatterns opened
+notified-refused = refl
+
+settled-refused : settled (refused State (opened Packets)) ≡ refused State (opened Packets)
+unfolding settled refused opened
+settled-refused = refl
+
+-- a free slot stays free
+settled-free : onClient settled free ≡ free
+unfolding onClient
+settled-free = refl

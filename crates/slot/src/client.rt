@@ -1,0 +1,60 @@
+// The patterns of a slot's client.
+use message::Message;
+ghost use mathlib.Core.Path.{_≡_};
+ghost use Prim.Native.Nat.{ℕ, _+_, _≤_};
+ghost use lib.ListN.{length};
+ghost use Rattle.slot.specs.Image.{used, notified, onClient};
+ghost use Rattle.slot.specs.Region.{SlotRules, clientOf, slotOf};
+ghost use Rattle.slot.specs.Contracts.{roomOf, HasOpen, IsOpen, IsAddable, Becomes, PatternFits, Adding, Removing};
+
+// Whether the client may add the pattern: it holds it already, or has fewer than sixteen.
+pub fn pattern_fits(s: &[u8], pattern: &[u8]) -> bool
+    requires { ⌜ IsOpen (now s) ⌝ }
+    ensures { λ b. ⌜ PatternFits (now (s .entry)) (now (pattern .entry)) b ⌝ }
+{
+    if subscriptions::is_held(&s[4..4104], pattern) {
+        return true;
+    }
+    subscriptions::count(&s[4..4104]) < 16
+}
+
+// Adds the pattern, where the client does not hold it yet.
+pub fn add_pattern(s: &mut [u8], pattern: &[u8])
+    requires { ⌜ IsAddable (now s) (now pattern) ⌝ }
+    ensures { λ _. ⌜ Adding (now (pattern .entry)) (now (s .entry)) (now (s .exit)) ⌝ }
+{
+    subscriptions::add(&mut s[4..4104], pattern);
+}
+
+// Removes the pattern.
+pub fn remove_pattern(s: &mut [u8], pattern: &[u8])
+    requires { ⌜ IsOpen (now s) ⌝ }
+    ensures { λ _. ⌜ Removing (now (pattern .entry)) (now (s .entry)) (now (s .exit)) ⌝ }
+{
+    subscriptions::remove(&mut s[4..4104], pattern);
+}
+
+// Owes the open client an INFO with this body if it holds a pattern for the key, which is the first
+// `key` bytes of the body.
+fn notify_open(s: &mut [u8], r: usize, body: &[u8], key: usize)
+    requires { ⌜ (HasOpen r (now s)) × (key ≤ length (now body)) × (length (now body) ≤ 65535) ⌝ }
+    ensures { λ _. ⌜ Becomes r (now (s .entry)) (now (s .exit))
+        (used (notified (roomOf r (now (s .entry))) (now (body .entry)) key (clientOf r (now (s .entry))))) ⌝ }
+{
+    if subscriptions::any_accepts(&s[4..4104], &body[..key]) {
+        crate::queueing::owe(s, r, Message::Info, body);
+    }
+}
+
+// Owes an open client that holds a pattern for the key an INFO with this body; the key is the first
+// `key` bytes of it. A free slot and a shut client stay as they are.
+pub fn notify(s: &mut [u8], r: usize, body: &[u8], key: usize)
+    requires { ⌜ (1 ≤ length (now s)) × (SlotRules r (now s)) × (key ≤ length (now body)) × (length (now body) ≤ 65535) ⌝ }
+    ensures { λ _. ⌜ Becomes r (now (s .entry)) (now (s .exit))
+        (onClient (notified (roomOf r (now (s .entry))) (now (body .entry)) key) (slotOf r (now (s .entry)))) ⌝ }
+{
+    if s[0] != 1 {
+        return;
+    }
+    notify_open(s, r, body, key);
+}

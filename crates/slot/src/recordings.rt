@@ -1,0 +1,51 @@
+// The recording of a slot's client.
+ghost use mathlib.Core.Path.{_≡_};
+ghost use mathlib.Core.List.{[]};
+ghost use mathlib.Core.Option.{some, none};
+ghost use Prim.Native.Nat.{ℕ, _+_, _≤_};
+ghost use Rattle.octets.specs.Items.{isSome};
+ghost use Rattle.recording.specs.Command.{actionOf};
+ghost use Rattle.slot.specs.Image.{used, withRecording, recorded};
+ghost use Rattle.slot.specs.Region.{clientOf};
+ghost use Rattle.slot.specs.Contracts.{HasClient, HasOpen, Becomes, Fits, Recordable};
+
+// Whether the client records.
+pub fn is_recording(s: &[u8], r: usize) -> bool
+    requires { ⌜ HasClient r (now s) ⌝ }
+    ensures { λ b. ⌜ b ≡ isSome (clientOf r (now (s .entry)) .recording) ⌝ }
+{
+    recording::is_on(&s[4104..4116 + r])
+}
+
+// Starts an empty recording.
+pub fn begin(s: &mut [u8], r: usize)
+    requires { ⌜ HasOpen r (now s) ⌝ }
+    ensures { λ _. ⌜ Becomes r (now (s .entry)) (now (s .exit)) (used (withRecording (some []) (clientOf r (now (s .entry))))) ⌝ }
+{
+    recording::begin(&mut s[4104..4116 + r]);
+}
+
+// Ends the recording.
+pub fn end_recording(s: &mut [u8], r: usize)
+    requires { ⌜ HasOpen r (now s) ⌝ }
+    ensures { λ _. ⌜ Becomes r (now (s .entry)) (now (s .exit)) (used (withRecording none (clientOf r (now (s .entry))))) ⌝ }
+{
+    recording::clear(&mut s[4104..4116 + r]);
+}
+
+// Whether a command with a payload of n bytes fits into the recording.
+pub fn record_fits(s: &[u8], r: usize, n: usize) -> bool
+    requires { ⌜ HasClient r (now s) ⌝ }
+    ensures { λ b. ⌜ Fits r (clientOf r (now (s .entry))) n b ⌝ }
+{
+    recording::fits(&s[4104..4116 + r], n)
+}
+
+// Records the command of an ID and a payload.
+pub fn record(s: &mut [u8], r: usize, id: u8, payload: &[u8])
+    requires { ⌜ Recordable r (now s) id (now payload) ⌝ }
+    ensures { λ _. ⌜ Becomes r (now (s .entry)) (now (s .exit))
+        (used (recorded (actionOf id (now (payload .entry))) (clientOf r (now (s .entry))))) ⌝ }
+{
+    recording::add(&mut s[4104..4116 + r], id, payload);
+}

@@ -1,0 +1,68 @@
+-- What the calls promise, for every memory and every argument: the numbers given back, and what the memory means
+-- afterwards.
+use mathlib.Core.Path.{_≡_}
+use mathlib.Core.List.{List, [], _∷_}
+use mathlib.Core.Bool.{Bool, true, false, cond}
+use Prim.Native.Nat.{ℕ, _≤_}
+use lib.ListN.{length, take, replicate}
+use lib.Seq.{sets}
+use Rattle.octets.specs.Octets.{Bytes}
+use Rattle.protocol.specs.Terms.{Protocol}
+use Rattle.server.specs.State.{Sizes, State}
+use Rattle.server.specs.Decision.{Call, opens, feeds, takes, closes, Reply}
+use Rattle.memory.specs.Image.{Image, imageOf}
+use Rattle.memory.specs.Rules.{memoryFine}
+use Rattle.service.specs.Service.{decide, afterEvent}
+use Rattle.service.specs.Represents.{stateImage}
+
+-- the answer where the memory breaks a rule of its layout
+abbrev pub broken : Reply
+broken = record { answer = 7; count = 0; bytes = [] }
+
+-- the memory keeps its rules and means this
+pub record Holds (m : Bytes) (im : Image) : Type 0 where
+  pub fine : memoryFine m ≡ true
+  pub means : imageOf m ≡ im
+
+-- the memory holds a state of the simple server
+abbrev pub Represents : Bytes → State → Type 0
+Represents m st = Holds m (stateImage st)
+
+module _ (protocol : Protocol) where
+  -- what a call gives back, from the memory that it is lent: 7 before all else
+  unfoldable pub replyTo : Call → Bytes → Reply
+  replyTo x m = cond (memoryFine m) (decide protocol x (imageOf m) .reply) broken
+
+  -- what the memory means after a call that found its rules kept
+  unfoldable pub imageAfter : Call → Bytes → Image
+  imageAfter x m = afterEvent protocol (decide protocol x (imageOf m) .event) (imageOf m)
+
+  -- a call that was lent the memory m gave these numbers and left m′
+  pub record Serves (x : Call) (m : Bytes) (answer count : ℕ) (m′ : Bytes) : Type 0 where
+    pub answered : answer ≡ replyTo x m .answer
+    pub counted : count ≡ replyTo x m .count
+    pub unaltered : 1 ≤ answer → answer ≤ 8 → m′ ≡ m
+    pub next : memoryFine m ≡ true → Holds m′ (imageAfter x m)
+
+  -- a take that was lent the slice out left out′: the message stands at its front, and the rest is as it was
+  pub record Takes (i : ℕ) (m out : Bytes) (answer count : ℕ) (m′ out′ : Bytes) : Type 0 where
+    pub serves : Serves (takes i (length out)) m answer count m′
+    pub written : out′ ≡ sets out 0 (replyTo (takes i (length out)) m .bytes)
+
+  -- one call of a list: what it was, what it gave, and the memory that it left
+  pub data Step (m : Bytes) : Call → Reply → Bytes → Type 0 where
+    opened : {i form answer count : ℕ} {m′ : Bytes} → Serves (opens i form) m answer count m′
+        → Step m (opens i form) (record { answer = answer; count = count; bytes = [] }) m′
+    fed : {i answer count : ℕ} {input m′ : Bytes} → Serves (feeds i input) m answer count m′
+        → Step m (feeds i input) (record { answer = answer; count = count; bytes = [] }) m′
+    -- what a take gave are the first bytes of its out slice, as many as its count says
+    took : {i answer count : ℕ} {out m′ out′ : Bytes} → Takes i m out answer count m′ out′
+        → Step m (takes i (length out)) (record { answer = answer; count = count; bytes = take count out′ }) m′
+    closed : {i answer count : ℕ} {m′ : Bytes} → Serves (closes i) m answer count m′
+        → Step m (closes i) (record { answer = answer; count = count; bytes = [] }) m′
+
+  -- a list of calls, each lent the memory that the last one left; what each gave; and the memory after all
+  pub data Run : Bytes → List Call → List Reply → Bytes → Type 0 where
+    none-left : {m : Bytes} → Run m [] [] m
+    next : {m m′ m″ : Bytes} {x : Call} {r : Reply} {xs : List Call} {rs : List Reply}
+        → Step m x r m′ → Run m′ xs rs m″ → Run m (x ∷ xs) (r ∷ rs) m″

@@ -1,0 +1,4 @@
+pub mod Turn
+pub mod Service
+pub mod Represents
+pub mod Contracts

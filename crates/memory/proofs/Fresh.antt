@@ -1,13 +1,13 @@
 -- Set up: what the writes of the header, of the store and of the slots' phases make of a memory.
 use mathlib.Core.Path.{_≡_, refl, sym, ap, _∙_}
-use mathlib.Core.List.{List, [], _∷_}
-use mathlib.Core.Bool.{Bool, true, false, cond, _&&_}
-use Prim.Native.Nat.{ℕ, zero, suc, _+_, _*_, _^_, _≤_, _<_}
+use mathlib.Core.List.{[]}
+use mathlib.Core.Bool.{Bool, true, false}
+use Prim.Native.Nat.{ℕ, zero, suc, _+_, _*_, _≤_, _<_}
 use native.Mathlib.Nat.{add-zero}
 use native.Mathlib.Omega.{arith}
-use lib.Dec.{eqb, leb}
-use lib.ListN.{length, take, drop, getD, set, replicate, length-set, length-replicate, getD-replicate, length-drop}
-use lib.Seq.{sets, length-sets, getD-set-same, getD-set-other, take-set-le, ext-getD, getD-drop, getD-take}
+use lib.Dec.{eqb}
+use lib.ListN.{length, take, drop, getD, set, replicate, length-set, length-replicate, getD-replicate}
+use lib.Seq.{sets, length-sets, getD-set-same, getD-set-other, take-set-le, ext-getD}
 use borrow.Author.Tests.{eq-eqb, le-leb, eqb-true, eqb-false}
 use Rattle.octets.specs.Octets.{Bytes}
 use Rattle.octets.specs.Part.{part}
@@ -16,18 +16,16 @@ use Rattle.octets.specs.Table.{rows}
 use Rattle.octets.proofs.Parts.{length-part, part-take, part-sets-same, getD-part}
 use Rattle.octets.proofs.Numbers.{numberAt-take, numberAt-sets-same, numberAt-sets-apart, numberAt-sets-before}
 use Rattle.octets.proofs.Tables.{length-rows, getD-table}
-use Rattle.recording.proofs.Tests.{and-true-true}
-use Rattle.server.specs.State.{Sizes, inRange}
-use Rattle.store.specs.Region.{storeFine, storeOf}
+use Rattle.server.specs.State.{Sizes}
 use Rattle.store.specs.Operation as store
-use Rattle.slot.specs.Image.{SlotImage, free}
+use Rattle.slot.specs.Image.{free}
 use Rattle.slot.specs.Region.{phaseOf, slotOf, slotFine}
 use Rattle.slot.proofs.Slots.{slotOf-free}
 use Rattle.memory.specs.Layout.{mark, sizesOf, stride, slotsStart, slotStart, memorySize, storePart, slotPart}
-use Rattle.memory.specs.Image.{Image, slotsOf, imageOf, emptyImage}
+use Rattle.memory.specs.Image.{slotsOf, imageOf, emptyImage}
 use Rattle.memory.specs.Rules.{all, headFine, slotsFine, memoryFine}
 use Rattle.memory.specs.Contracts.{Room, Heading, Freeing, SetUp}
-use Rattle.memory.proofs.Sizes.{Ranges, ranges}
+use Rattle.memory.proofs.Sizes.{ranges}
 use Rattle.memory.proofs.Updates.{rows-within, sizesOf-sets}
 
 -- ---- tables of equal rows
@@ -43,7 +41,8 @@ pub table-replicate : {A : Type 0} (f : Bytes → A) (size base n : ℕ) (m : By
 table-replicate f size base n m x h =
     let l : length (rows f size n (drop base m)) ≡ n = length-rows f size n (drop base m) in
     ext-getD x (rows f size n (drop base m)) (replicate n x) (l ∙ sym (length-replicate n x))
-    (λ i k. getD-table f size base n i m x (omega arith) ∙ h i (omega arith) ∙ sym (getD-replicate n i x x (omega arith)))
+    (λ i k. getD-table f size base n i m x (omega arith) ∙ h i (omega arith)
+    ∙ sym (getD-replicate n i x x (omega arith)))
 
 -- ---- the header
 

@@ -1,32 +1,26 @@
 -- A slot that is lent to the crate slot and comes back: what is known of its bytes, and what the memory becomes.
-use mathlib.Core.Path.{_≡_, refl, sym, ap, subst, _∙_}
-use mathlib.Core.List.{List, []}
-use mathlib.Core.Bool.{Bool, true, false, cond, not, _&&_, true≢false}
-use Prim.Native.Nat.{ℕ, _+_, _-_, _*_, _/_, _≤_, _<_}
+use mathlib.Core.Path.{_≡_, refl, sym, ap, _∙_}
+use mathlib.Core.Bool.{Bool, true, false, cond, not, true≢false}
+use Prim.Native.Nat.{ℕ, _+_, _-_, _≤_, _<_}
 use native.Mathlib.Omega.{arith}
 use lib.Dec.{eqb}
-use lib.ListN.{length, take, drop, set}
-use lib.Seq.{sets}
+use lib.ListN.{length, take, drop}
 use borrow.Author.Tests.{eqb-true, eqb-false, not-true}
-use borrow.Rule.Slice.PartMut.{putMid}
 use Rattle.octets.specs.Octets.{Bytes}
-use Rattle.octets.specs.Part.{part}
-use Rattle.octets.proofs.Parts.{length-part, lent-part}
+use Rattle.octets.proofs.Parts.{length-part}
 use Rattle.octets.proofs.Tables.{length-rows, getD-table}
 use Rattle.recording.proofs.Tests.{and-both}
 use Rattle.server.specs.State.{Sizes}
-use Rattle.queue.specs.Meaning.{kept}
-use Rattle.slot.specs.Image.{ClientImage, SlotImage, free, used, opened, onClient}
+use Rattle.slot.specs.Image.{ClientImage, SlotImage, free, used, opened}
 use Rattle.slot.specs.Region.{phaseOf, kindByte, kindNumbered, clientOf, slotOf, SlotRules}
-use Rattle.slot.specs.Contracts as slot
 use Rattle.slot.specs.Contracts.{roomOf, HasClient, HasResting, HasOpen, Sized}
 use Rattle.slot.proofs.Slots.{slotOf-used, slotOf-free}
-use Rattle.memory.specs.Layout.{sizesOf, stride, slotsStart, slotStart, storePart, slotPart}
-use Rattle.memory.specs.Image.{Image, slotIn, isUsed, clientIn, isOpen, clientAt, withSlots, onSlot, slotsOf, imageOf}
-use Rattle.memory.specs.Rules.{Sound, Becomes}
-use Rattle.memory.specs.Contracts.{UpToSlot, InSlot, InUsed, InResting, InOpen, Changes}
-use Rattle.memory.proofs.Sizes.{Ranges, ranges, slots-small}
-use Rattle.memory.proofs.Updates.{slot-within, slot-replaced}
+use Rattle.memory.specs.Layout.{sizesOf, stride, slotsStart, slotStart, slotPart}
+use Rattle.memory.specs.Image.{slotIn, isUsed, clientIn, isOpen, clientAt, slotsOf}
+use Rattle.memory.specs.Image.{imageOf}
+use Rattle.memory.specs.Contracts.{UpToSlot, InSlot, InResting}
+use Rattle.memory.proofs.Sizes.{ranges}
+use Rattle.memory.proofs.Updates.{slot-within}
 
 -- ---- the image of a slot
 

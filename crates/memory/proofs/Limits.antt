@@ -1,18 +1,18 @@
 -- The limits of a client, at any time: its queue, its patterns and its recording.
-use mathlib.Core.Path.{_≡_, refl, sym, ap, _∙_}
+use mathlib.Core.Path.{_≡_, refl, ap, _∙_}
 use mathlib.Core.List.{List}
 use mathlib.Core.Bool.{true}
 use mathlib.Core.Option.{some}
-use Prim.Native.Nat.{ℕ, _+_, _-_, _≤_}
-use lib.ListN.{length, take, drop}
+use Prim.Native.Nat.{ℕ, _+_, _≤_}
+use lib.ListN.{length}
 use Rattle.octets.specs.Octets.{Bytes}
 use Rattle.protocol.specs.Terms.{Action}
 use Rattle.server.specs.State.{recordingFits}
 use Rattle.slot.specs.Image.{ClientImage}
-use Rattle.slot.specs.Region.{Bare, clientOf}
+use Rattle.slot.specs.Region.{Bare}
 use Rattle.slot.proofs.Limits as slot
 use Rattle.memory.specs.Layout.{sizesOf, stride, slotStart}
-use Rattle.memory.specs.Image.{slotIn, isUsed, clientAt, imageOf}
+use Rattle.memory.specs.Image.{slotIn, clientAt, imageOf}
 use Rattle.memory.specs.Contracts.{InSlot, InUsed, InOpen}
 use Rattle.memory.proofs.Lent.{open-used, Lent, lent, lent-queue, lent-used, lent-client, lent-open}
 
@@ -60,4 +60,5 @@ pub shut-bare : (m : Bytes) (i : ℕ) → InUsed m i → clientAt i (imageOf m) 
 shut-bare m i h e =
     let l = own (h .in-slot) in
     rw (← (lent-client l (h .has-client)))
-    (slot.shut-bare (lent-used l (h .has-client)) (ap (λ (c : ClientImage). c .shut) (lent-client l (h .has-client)) ∙ e))
+    (slot.shut-bare (lent-used l (h .has-client))
+    (ap (λ (c : ClientImage). c .shut) (lent-client l (h .has-client)) ∙ e))

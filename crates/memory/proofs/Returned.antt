@@ -1,15 +1,14 @@
 -- A lent slot comes back: what the memory becomes, by what the crate slot promises of the lent bytes.
-use mathlib.Core.Path.{_≡_, refl, sym, ap, subst, _∙_}
-use mathlib.Core.List.{List, [], _∷_, _++_}
+use mathlib.Core.Path.{_≡_, sym, ap, subst, _∙_}
 use mathlib.Core.Bool.{Bool, true}
-use Prim.Native.Nat.{ℕ, _+_, _-_, _≤_, _<_}
+use Prim.Native.Nat.{ℕ, _-_}
 use native.Mathlib.Omega.{arith}
 use lib.ListN.{length, take, drop}
 use lib.Seq.{sets}
 use borrow.Rule.Slice.PartMut.{putMid}
 use Rattle.octets.specs.Octets.{Bytes}
 use Rattle.octets.proofs.Parts.{lent-part}
-use Rattle.protocol.specs.Terms.{Action, Message}
+use Rattle.protocol.specs.Terms.{Message}
 use Rattle.server.specs.State.{Sizes}
 use Rattle.queue.specs.Rows.{firstLength, firstMessage}
 use Rattle.slot.specs.Image.{ClientImage, SlotImage, used, taken, owed, notified, onClient}
@@ -19,9 +18,10 @@ use Rattle.slot.specs.Contracts.{roomOf}
 use Rattle.memory.specs.Layout.{sizesOf, stride, slotStart}
 use Rattle.memory.specs.Image.{slotIn, isUsed, clientAt, onSlot, imageOf}
 use Rattle.memory.specs.Rules.{Becomes}
-use Rattle.memory.specs.Contracts.{InOpen, Changes, Taking, Owing, Notifying, Recordable, Addable}
+use Rattle.memory.specs.Contracts.{Changes, Taking, Owing, Notifying, Recordable, Addable}
 use Rattle.memory.proofs.Updates.{slot-replaced}
-use Rattle.memory.proofs.Lent.{used-is, open-used, Lent, lent-order, lent-within, lent-length, lent-queue, lent-image, lent-client, lent-open}
+use Rattle.memory.proofs.Lent.{used-is, open-used, Lent, lent-order, lent-within, lent-length, lent-queue}
+use Rattle.memory.proofs.Lent.{lent-image, lent-client, lent-open}
 
 module _ {m : Bytes} {i a b r : ℕ} (l : Lent m i a b r) where
   abbrev z : Sizes
@@ -49,7 +49,8 @@ module _ {m : Bytes} {i a b r : ℕ} (l : Lent m i a b r) where
   unfolding onClient clientAt
   lent-changes g u w =
       lent-becomes (onClient g) w
-      (ap (λ (c : ClientImage). used (g c)) (lent-client l u) ∙ sym (ap (onClient g) (used-is (slotIn i (imageOf m)) u)))
+      (ap (λ (c : ClientImage). used (g c)) (lent-client l u)
+      ∙ sym (ap (onClient g) (used-is (slotIn i (imageOf m)) u)))
 
   -- the same where a free slot stays free
   pub lent-changes-any : {v : Bytes} (g : ClientImage → ClientImage) → slot.Becomes r s v (onClient g (slotOf r s))

@@ -1,5 +1,5 @@
 -- The store region that is lent to the crate store and comes back.
-use mathlib.Core.Path.{_≡_, refl, sym, ap, subst, _∙_}
+use mathlib.Core.Path.{_≡_, sym, ap, _∙_}
 use mathlib.Core.Bool.{true}
 use Prim.Native.Nat.{ℕ, _+_, _-_, _≤_}
 use native.Mathlib.Omega.{arith}
@@ -33,7 +33,8 @@ module _ {m : Bytes} {end : ℕ} (h : Sound m) (e : end ≡ 28 + sizesOf m .stor
   store-within = omega (arith, e, h .headed .long)
 
   pub store-length : length s ≡ 8 + sizesOf m .storeRoom
-  store-length = ap length (store-bytes m end e) ∙ length-part m 20 (8 + sizesOf m .storeRoom) (omega (arith, e, store-within))
+  store-length =
+      ap length (store-bytes m end e) ∙ length-part m 20 (8 + sizesOf m .storeRoom) (omega (arith, e, store-within))
 
   pub store-room : roomOf s ≡ imageOf m .sizes .storeRoom
   unfolding imageOf
@@ -51,6 +52,7 @@ module _ {m : Bytes} {end : ℕ} (h : Sound m) (e : end ≡ 28 + sizesOf m .stor
       → Becomes m (putMid 20 (end - 20) m v) (withStore es (imageOf m))
   store-becomes {v} {es} w =
       let p : putMid 20 (end - 20) m v ≡ sets m 20 v =
-      lent-part m 20 (end - 20) v (omega (arith, w .same-length, store-length, e)) (omega (arith, store-order, store-within)) in
+      lent-part m 20 (end - 20) v (omega (arith, w .same-length, store-length, e))
+      (omega (arith, store-order, store-within)) in
       let n : length v ≡ 8 + sizesOf m .storeRoom = w .same-length ∙ store-length in
       rw p (rw (w .holds) at (store-replaced m v h n (w .fine)))

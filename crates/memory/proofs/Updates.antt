@@ -1,7 +1,8 @@
--- What the memory means and which rules it keeps after one slot, or the store, was replaced by bytes of the same length.
-use mathlib.Core.Path.{_≡_, refl, sym, ap, ap₂, _∙_}
+-- What the memory means and which rules it keeps after one slot, or the store, was replaced by bytes of the same
+-- length.
+use mathlib.Core.Path.{_≡_, refl, sym, ap, _∙_}
 use mathlib.Core.List.{List}
-use mathlib.Core.Bool.{Bool, true, false, cond}
+use mathlib.Core.Bool.{Bool, true, false}
 use mathlib.Core.Logic.{_⊎_, inl, inr}
 use Prim.Native.Nat.{ℕ, _+_, _*_, _≤_, _<_}
 use native.Mathlib.Nat.{suc-mul, mul-le-mul-right}
@@ -11,18 +12,15 @@ use borrow.Author.Tests.{eqb-true, eqb-false}
 use lib.ListN.{length, drop, getD, set}
 use lib.Seq.{sets, length-sets, getD-set-same, getD-set-other}
 use Rattle.octets.specs.Octets.{Bytes}
-use Rattle.octets.specs.Part.{part}
-use Rattle.octets.specs.Number.{numberAt}
 use Rattle.octets.specs.Table.{rows}
 use Rattle.octets.proofs.Parts.{part-sets-before, part-sets-after, part-sets-same}
 use Rattle.octets.proofs.Numbers.{numberAt-sets-before}
 use Rattle.octets.proofs.Tables.{length-rows, table-sets, table-sets-before, getD-table}
-use Rattle.server.specs.State.{Sizes, inRange}
+use Rattle.server.specs.State.{Sizes}
 use Rattle.store.specs.Region.{storeFine, storeOf}
-use Rattle.slot.specs.Image.{SlotImage}
 use Rattle.slot.specs.Region.{SlotRules, slotOf}
-use Rattle.memory.specs.Layout.{mark, sizesOf, stride, slotsStart, slotStart, memorySize, storePart, slotPart}
-use Rattle.memory.specs.Image.{Image, slotIn, withStore, withSlots, onSlot, slotsOf, imageOf}
+use Rattle.memory.specs.Layout.{sizesOf, stride, slotsStart, slotStart, storePart, slotPart}
+use Rattle.memory.specs.Image.{withStore, withSlots, onSlot, slotsOf, imageOf}
 use Rattle.memory.specs.Rules.{Headed, Sound, Becomes}
 
 -- a write behind the header leaves it
@@ -84,10 +82,12 @@ module _ (m : Bytes) (i : ℕ) (v : Bytes) (h : Headed m) (inside : i < sizesOf 
   pub slotsOf-slot : slotsOf z m′ ≡ set (slotsOf z m) i (slotOf (z .recordRoom) v)
   unfolding slotsOf
   slotsOf-slot =
-      table-sets (slotOf (z .recordRoom)) (stride z) (slotsStart z) (z .slotCount) i m v inside (slot-within m i h inside) size
+      table-sets (slotOf (z .recordRoom)) (stride z) (slotsStart z) (z .slotCount) i m v inside
+      (slot-within m i h inside) size
 
   -- the bytes of each slot
-  parts-slot : (j : ℕ) → j < z .slotCount → slotPart z j m′ ≡ getD (set (rows (λ s. s) (stride z) (z .slotCount) (drop (slotsStart z) m)) i v) j v
+  parts-slot : (j : ℕ) → j < z .slotCount
+      → slotPart z j m′ ≡ getD (set (rows (λ s. s) (stride z) (z .slotCount) (drop (slotsStart z) m)) i v) j v
   parts-slot j l =
       sym (getD-table (λ s. s) (stride z) (slotsStart z) (z .slotCount) j m′ v l)
       ∙ ap (λ (t : List Bytes). getD t j v)
@@ -153,7 +153,8 @@ store-replaced m v h e f =
       means = rw (
         z,
         p,
-        table-sets-before (slotOf (sizesOf m .recordRoom)) (stride (sizesOf m)) (slotsStart (sizesOf m)) (sizesOf m .slotCount) m 20 v
+        table-sets-before (slotOf (sizesOf m .recordRoom)) (stride (sizesOf m)) (slotsStart (sizesOf m))
+            (sizesOf m .slotCount) m 20 v
             (omega arith),
       );
     }

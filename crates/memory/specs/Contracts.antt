@@ -1,8 +1,9 @@
 -- What the functions on the memory ask and promise, in terms of what the memory means.
 use mathlib.Core.Path.{_≡_}
 use mathlib.Core.Bool.{Bool, true}
-use mathlib.Core.List.{List, [], _∷_, _++_}
+use mathlib.Core.List.{[], _∷_, _++_}
 use Prim.Native.Nat.{ℕ, _+_, _≤_, _<_}
+use lib.Dec.{leb}
 use lib.ListN.{length, take, getD}
 use lib.Seq.{sets}
 use Rattle.octets.specs.Octets.{Bytes}
@@ -16,7 +17,7 @@ use Rattle.queue.specs.Rows.{firstLength, firstMessage}
 use Rattle.recording.specs.Command.{actionOf, commandFine}
 use Rattle.slot.specs.Image.{ClientImage, taken, owed, notified, commandsOf, withPatterns, onClient}
 use Rattle.memory.specs.Layout.{mark, sizesOf, slotsStart, slotStart, memorySize}
-use Rattle.memory.specs.Image.{Image, slotIn, isUsed, isOpen, clientAt, onSlot, imageOf, emptyImage}
+use Rattle.memory.specs.Image.{slotIn, isUsed, isOpen, clientAt, onSlot, imageOf, emptyImage}
 use Rattle.memory.specs.Rules.{Headed, Sound, memoryFine, Becomes}
 
 -- a memory with a header, and the number of a slot or N
@@ -43,8 +44,8 @@ pub record Freeing (z : Sizes) (m : Bytes) (n : ℕ) (m′ : Bytes) : Type 0 whe
   pub front : take (slotsStart z) m′ ≡ take (slotsStart z) m
   pub freed : (i : ℕ) → i < n → getD m′ (slotStart z i) 0 ≡ 0
 
--- a memory is set up: as long as it was, its rules between calls hold, and it means an empty store and free slots. The bytes of free
--- slots and of unused rooms mean nothing and may be anything.
+-- a memory is set up: as long as it was, its rules between calls hold, and it means an empty store and free slots.
+-- The bytes of free slots and of unused rooms mean nothing and may be anything.
 pub record SetUp (z : Sizes) (m m′ : Bytes) : Type 0 where
   pub size : length m′ ≡ length m
   pub fine : memoryFine m′ ≡ true
@@ -111,14 +112,18 @@ pub record Recordable (m : Bytes) (i id : ℕ) (p : Bytes) : Type 0 where
   pub in-open : InOpen m i
   pub on : isSome (clientAt i (imageOf m) .recording) ≡ true
   pub known : commandFine id (length p) ≡ true
-  pub fits : recordingFits (imageOf m .sizes .recordRoom) (commandsOf (clientAt i (imageOf m) .recording) ++ (actionOf id p ∷ []))
-      ≡ true
+  pub fits : recordingFits (imageOf m .sizes .recordRoom)
+      (commandsOf (clientAt i (imageOf m) .recording) ++ (actionOf id p ∷ [])) ≡ true
 
 -- an open client can add the pattern: at most 255 bytes, and at most the sixteenth
 pub record Addable (m : Bytes) (i : ℕ) (p : Bytes) : Type 0 where
   pub in-open : InOpen m i
   pub short : length p ≤ 255
   pub few : length (addPattern p (clientAt i (imageOf m) .patterns)) ≤ 16
+
+-- whether the client holds at most sixteen patterns with this one added
+abbrev pub PatternFits : ℕ → Bytes → Bytes → Bool → Type 0
+PatternFits i p m b = b ≡ leb (length (addPattern p (clientAt i (imageOf m) .patterns))) 16
 
 -- a pattern more, and a pattern less
 unfoldable pub patternAdded : Bytes → ClientImage → ClientImage

@@ -2,3 +2,4 @@ pub mod Layout
 pub mod Image
 pub mod Rules
 pub mod Contracts
+mod Examples

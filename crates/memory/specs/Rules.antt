@@ -8,7 +8,7 @@ use lib.ListN.{length, drop}
 use Rattle.octets.specs.Octets.{Bytes}
 use Rattle.octets.specs.Number.{numberAt}
 use Rattle.octets.specs.Table.{rows}
-use Rattle.server.specs.State.{Sizes, inRange}
+use Rattle.server.specs.State.{inRange}
 use Rattle.store.specs.Region.{storeFine}
 use Rattle.slot.specs.Region.{SlotRules, slotFine}
 use Rattle.memory.specs.Layout.{mark, sizesOf, stride, slotsStart, memorySize, storePart, slotPart}

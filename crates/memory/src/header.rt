@@ -1,4 +1,4 @@
-// The sizes of a memory: their ranges, the bytes that they ask for, and what the header says of them.
+// The sizes of a memory: their ranges, the bytes that they ask for, and where things lie by them.
 ghost use mathlib.Core.Path.{_≡_};
 ghost use mathlib.Core.Bool.{true};
 ghost use Prim.Native.Nat.{_+_, _≤_};
@@ -128,7 +128,8 @@ pub fn slot_start(mem: &[u8], i: usize) -> usize
 // Where a slot ends.
 pub fn slot_end(mem: &[u8], i: usize) -> usize
     requires { ⌜ UpToSlot (now mem) i ⌝ }
-    ensures { λ n. ⌜ n ≡ slotStart (sizesOf (now (mem .entry))) i + stride (sizesOf (now (mem .entry))) ⌝ }
+    ensures { λ n. ⌜ n
+        ≡ slotStart (sizesOf (now (mem .entry))) i + stride (sizesOf (now (mem .entry))) ⌝ }
 {
     slot_start(mem, i) + slot_size(mem)
 }

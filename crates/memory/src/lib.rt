@@ -1,7 +1,7 @@
-// The lent memory: a header, the store, and N slots. The crate's specs have the layout (Layout), what a
-// memory means (Image), its rules (Rules) and what functions ask and promise (Contracts).
-// Internal layer: what a function requires is its callers' to show. The sizes of a memory are read from
-// its header where they are needed.
+// The lent memory: a header, the store, and N slots. The crate's specs have the layout (Layout),
+// what a memory means (Image), its rules (Rules) and what functions ask and promise (Contracts).
+// Internal layer: what a function requires is its callers' to show. The sizes of a memory are read
+// from its header where they are needed.
 mod check;
 mod header;
 mod patterns;

@@ -1,18 +1,13 @@
 // The patterns of slots' clients.
-ghost use mathlib.Core.Path.{_≡_};
-ghost use lib.Dec.{leb};
-ghost use lib.ListN.{length};
-ghost use Rattle.server.specs.Patterns.{addPattern};
-ghost use Rattle.memory.specs.Image.{clientAt, imageOf};
-ghost use Rattle.memory.specs.Contracts.{InOpen, Changes, Addable, patternAdded, patternRemoved};
+ghost use Rattle.memory.specs.Contracts.{InOpen, Changes, Addable};
+ghost use Rattle.memory.specs.Contracts.{patternAdded, patternRemoved, PatternFits};
 use crate::header::slot_end;
 use crate::header::slot_start;
 
 // Whether the open client holds at most sixteen patterns with this one added.
 pub fn pattern_fits(mem: &[u8], i: usize, pattern: &[u8]) -> bool
     requires { ⌜ InOpen (now mem) i ⌝ }
-    ensures { λ b. ⌜ b
-        ≡ leb (length (addPattern (now (pattern .entry)) (clientAt i (imageOf (now (mem .entry))) .patterns))) 16 ⌝ }
+    ensures { λ b. ⌜ PatternFits i (now (pattern .entry)) (now (mem .entry)) b ⌝ }
 {
     let a = slot_start(mem, i);
     let b = slot_end(mem, i);
@@ -22,7 +17,8 @@ pub fn pattern_fits(mem: &[u8], i: usize, pattern: &[u8]) -> bool
 // Adds a pattern to the open client's; one that it holds already is added no second time.
 pub fn add_pattern(mem: &mut [u8], i: usize, pattern: &[u8])
     requires { ⌜ Addable (now mem) i (now pattern) ⌝ }
-    ensures { λ _. ⌜ Changes i (patternAdded (now (pattern .entry))) (now (mem .entry)) (now (mem .exit)) ⌝ }
+    ensures { λ _. ⌜ Changes i (patternAdded (now (pattern .entry)))
+        (now (mem .entry)) (now (mem .exit)) ⌝ }
 {
     let a = slot_start(&mem[..], i);
     let b = slot_end(&mem[..], i);
@@ -32,7 +28,8 @@ pub fn add_pattern(mem: &mut [u8], i: usize, pattern: &[u8])
 // Removes a pattern from the open client's, where it holds it.
 pub fn remove_pattern(mem: &mut [u8], i: usize, pattern: &[u8])
     requires { ⌜ InOpen (now mem) i ⌝ }
-    ensures { λ _. ⌜ Changes i (patternRemoved (now (pattern .entry))) (now (mem .entry)) (now (mem .exit)) ⌝ }
+    ensures { λ _. ⌜ Changes i (patternRemoved (now (pattern .entry)))
+        (now (mem .entry)) (now (mem .exit)) ⌝ }
 {
     let a = slot_start(&mem[..], i);
     let b = slot_end(&mem[..], i);

@@ -1,4 +1,4 @@
-// The queues of slots' clients: what is owed during a step, the end of a step, refusals, and taking.
+// The queues of slots' clients: what a step owes them, the end of a step, refusals, and taking.
 ghost use mathlib.Core.Path.{_≡_};
 ghost use mathlib.Core.Bool.{not};
 ghost use Rattle.message.specs.Writing.{said};
@@ -35,11 +35,12 @@ pub fn first_length(mem: &[u8], i: usize) -> usize
     slot::first_length(&mem[a..b], r)
 }
 
-// Takes the client's first message: writes it at the front of out, which has room for it, removes it from
-// the queue and gives its length. The rest of out is as it was.
+// Takes the client's first message: writes it at the front of out, which has room for it, removes
+// it from the queue and gives its length. The rest of out is as it was.
 pub fn take(mem: &mut [u8], i: usize, out: &mut [u8]) -> usize
     requires { ⌜ Takable (now mem) i (now out) ⌝ }
-    ensures { λ n. ⌜ Taking (now (mem .entry)) i (now (out .entry)) n (now (mem .exit)) (now (out .exit)) ⌝ }
+    ensures { λ n. ⌜ Taking (now (mem .entry)) i (now (out .entry)) n
+        (now (mem .exit)) (now (out .exit)) ⌝ }
 {
     let a = slot_start(&mem[..], i);
     let b = slot_end(&mem[..], i);
@@ -50,7 +51,8 @@ pub fn take(mem: &mut [u8], i: usize, out: &mut [u8]) -> usize
 // Owes the open client a message. The body is an INFO's payload or a PONG's identifier.
 pub fn owe(mem: &mut [u8], i: usize, message: Message, body: &[u8])
     requires { ⌜ Owable (now mem) i (now body) ⌝ }
-    ensures { λ _. ⌜ Owing i (said message (now (body .entry))) (now (mem .entry)) (now (mem .exit)) ⌝ }
+    ensures { λ _. ⌜ Owing i (said message (now (body .entry)))
+        (now (mem .entry)) (now (mem .exit)) ⌝ }
 {
     let a = slot_start(&mem[..], i);
     let b = slot_end(&mem[..], i);
@@ -69,8 +71,8 @@ pub fn refuse(mem: &mut [u8], i: usize, refusal: Refusal)
     slot::refuse(&mut mem[a..b], r, refusal);
 }
 
-// Ends a step for the slot: what its client is owed is queued, or the client is shut with 102. A free slot
-// and a shut client stay as they are.
+// Ends a step for the slot: what its client is owed is queued, or the client is shut with 102. A
+// free slot and a shut client stay as they are.
 pub fn settle(mem: &mut [u8], i: usize)
     requires { ⌜ InSlot (now mem) i ⌝ }
     ensures { λ _. ⌜ Changes i settled (now (mem .entry)) (now (mem .exit)) ⌝ }
@@ -81,8 +83,8 @@ pub fn settle(mem: &mut [u8], i: usize)
     slot::settle(&mut mem[a..b], r);
 }
 
-// Tells the slot of a key that was written, the first `key` bytes of the body: an open client with a
-// pattern for the key is owed an INFO with the body, and any other slot stays as it is.
+// Tells the slot of a key that was written, the first `key` bytes of the body: an open client with
+// a pattern for the key is owed an INFO with the body, and any other slot stays as it is.
 pub fn notify(mem: &mut [u8], i: usize, body: &[u8], key: usize)
     requires { ⌜ Notifiable (now mem) i (now body) key ⌝ }
     ensures { λ _. ⌜ Notifying i (now (body .entry)) key (now (mem .entry)) (now (mem .exit)) ⌝ }

@@ -48,7 +48,8 @@ pub fn end_recording(mem: &mut [u8], i: usize)
 // Whether a command with a payload of n bytes fits behind those that the client has recorded.
 pub fn record_fits(mem: &[u8], i: usize, n: usize) -> bool
     requires { ⌜ InUsed (now mem) i ⌝ }
-    ensures { λ b. ⌜ Fits (imageOf (now (mem .entry)) .sizes .recordRoom) (clientAt i (imageOf (now (mem .entry)))) n b ⌝ }
+    ensures { λ b. ⌜ Fits (imageOf (now (mem .entry)) .sizes .recordRoom)
+        (clientAt i (imageOf (now (mem .entry)))) n b ⌝ }
 {
     let a = slot_start(mem, i);
     let b = slot_end(mem, i);
@@ -59,7 +60,8 @@ pub fn record_fits(mem: &[u8], i: usize, n: usize) -> bool
 // Records a command of the open client, which records and has room for it.
 pub fn record(mem: &mut [u8], i: usize, id: u8, payload: &[u8])
     requires { ⌜ Recordable (now mem) i id (now payload) ⌝ }
-    ensures { λ _. ⌜ Changes i (recorded (actionOf id (now (payload .entry)))) (now (mem .entry)) (now (mem .exit)) ⌝ }
+    ensures { λ _. ⌜ Changes i (recorded (actionOf id (now (payload .entry))))
+        (now (mem .entry)) (now (mem .exit)) ⌝ }
 {
     let a = slot_start(&mem[..], i);
     let b = slot_end(&mem[..], i);

@@ -8,10 +8,15 @@ use Rattle.memory.proofs.Returned.{lent-addable, lent-changes}
 use Rattle.memory.proofs.patterns.add_pattern.Statement.{statement}
 use Rattle.memory.proofs.patterns.add_pattern.Tie as tie
 
+-- the bounds of the lent slot
 held : (c : tie.After-slot-end)
-    → Lent (c .before .before .before .before .before .before .args .mem .now) (c .before .before .before .before .before .before .args .i) (c .before .before .slot-start .result) (c .slot-end .result)
+    → Lent (c .before .before .before .before .before .before .args .mem .now)
+    (c .before .before .before .before .before .before .args .i) (c .before .before .slot-start .result)
+    (c .slot-end .result)
     (sizesOf (c .before .before .before .before .before .before .args .mem .now) .recordRoom)
-held c = lent (c .before .before .before .before .before .before .pre .in-open .in-slot) (c .before .before .slot-start .ensures) (c .slot-end .ensures)
+held c =
+    let k = c .before .before .before .before .before .before in
+    lent (k .pre .in-open .in-slot) (c .before .before .slot-start .ensures) (c .slot-end .ensures)
 
 slot-start-requires : tie.Need-slot-start-requires
 slot-start-requires c κs = up-to-slot (c .before .before .before .pre .in-open .in-slot)
@@ -19,25 +24,22 @@ slot-start-requires c κs = up-to-slot (c .before .before .before .pre .in-open 
 slot-end-requires : tie.Need-slot-end-requires
 slot-end-requires c κs = up-to-slot (c .before .before .before .before .before .pre .in-open .in-slot)
 
-sub-add-pattern : tie.Need-sub-add-pattern
-sub-add-pattern c = search needs
-
-part-add-pattern-start : tie.Need-part-add-pattern-start
-part-add-pattern-start c = search needs
-
 part-add-pattern-end : tie.Need-part-add-pattern-end
-part-add-pattern-end c = let h = lent-within (held (c)) in search needs
+part-add-pattern-end c = let h = lent-within (held c) in search needs
 
 add-pattern-requires : tie.Need-add-pattern-requires
-add-pattern-requires c κs = record { room = (sizesOf (c .before .before .before .before .before .before .before .args .mem .now) .recordRoom); addable = lent-addable (held (c .before)) (c .before .before .before .before .before .before .before .pre) }
-
-same-length : tie.Need-same-length
-same-length c = search needs
+add-pattern-requires c κs =
+    let k = c .before .before .before .before .before .before .before in
+    record { room = (sizesOf (k .args .mem .now) .recordRoom); addable = lent-addable (held (c .before)) (k .pre) }
 
 returns : tie.Need-returns
 unfolding patternAdded
-returns c = lent-changes (held (c .before .before .before .before)) (patternAdded (c .before .before .before .before .before .before .before .before .before .before .args .pattern .now)) (open-used (slotIn (c .before .before .before .before .before .before .before .before .before .before .args .i) (imageOf (c .before .before .before .before .before .before .before .before .before .before .args .mem .now))) (c .before .before .before .before .before .before .before .before .before .before .pre .in-open .has-open))
-    (c .before .before .add-pattern .ensures (sizesOf (c .before .before .before .before .before .before .before .before .before .before .args .mem .now) .recordRoom) (lent-open (held (c .before .before .before .before)) (c .before .before .before .before .before .before .before .before .before .before .pre .in-open .has-open)))
+returns c =
+    let k = c .before .before .before .before .before .before .before .before .before .before in
+    lent-changes (held (c .before .before .before .before)) (patternAdded (k .args .pattern .now))
+    (open-used (slotIn (k .args .i) (imageOf (k .args .mem .now))) (k .pre .in-open .has-open))
+    (c .before .before .add-pattern .ensures (sizesOf (k .args .mem .now) .recordRoom)
+    (lent-open (held (c .before .before .before .before)) (k .pre .in-open .has-open)))
 
 pub add-pattern-spec : {M : Type 1} → statement M
 add-pattern-spec =
@@ -45,9 +47,9 @@ add-pattern-spec =
     (tie.spec
     slot-start-requires
     slot-end-requires
-    sub-add-pattern
-    part-add-pattern-start
+    (λ c. search needs)
+    (λ c. search needs)
     part-add-pattern-end
     add-pattern-requires
-    same-length
+    (λ c. search needs)
     returns)

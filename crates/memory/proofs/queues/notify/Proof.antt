@@ -5,12 +5,16 @@ use Rattle.memory.proofs.Returned.{lent-notified}
 use Rattle.memory.proofs.queues.notify.Statement.{statement}
 use Rattle.memory.proofs.queues.notify.Tie as tie
 
+-- the bounds of the lent slot
 held : (c : tie.After-record-room)
-    → Lent (c .before .before .before .before .before .before .before .before .args .mem .now) (c .before .before .before .before .before .before .before .before .args .i) (c .before .before .before .before .slot-start .result) (c .before .before .slot-end .result)
+    → Lent (c .before .before .before .before .before .before .before .before .args .mem .now)
+    (c .before .before .before .before .before .before .before .before .args .i)
+    (c .before .before .before .before .slot-start .result) (c .before .before .slot-end .result)
     (c .record-room .result)
 held c =
+    let k = c .before .before .before .before .before .before .before .before in
     record {
-      in-slot = c .before .before .before .before .before .before .before .before .pre .in-slot;
+      in-slot = k .pre .in-slot;
       start = c .before .before .before .before .slot-start .ensures;
       end = c .before .before .slot-end .ensures;
       room = c .record-room .ensures;
@@ -23,25 +27,23 @@ slot-end-requires : tie.Need-slot-end-requires
 slot-end-requires c κs = up-to-slot (c .before .before .before .before .before .pre .in-slot)
 
 record-room-requires : tie.Need-record-room-requires
-record-room-requires c κs = c .before .before .before .before .before .before .before .pre .in-slot .sound .headed .header
-
-sub-notify : tie.Need-sub-notify
-sub-notify c = search needs
-
-part-notify-start : tie.Need-part-notify-start
-part-notify-start c = search needs
+record-room-requires c κs =
+    let k = c .before .before .before .before .before .before .before in
+    k .pre .in-slot .sound .headed .header
 
 part-notify-end : tie.Need-part-notify-end
-part-notify-end c = let h = lent-within (held (c)) in search needs
+part-notify-end c = let h = lent-within (held c) in search needs
 
 notify-requires : tie.Need-notify-requires
-notify-requires c κs = (lent-some (held (c .before)), lent-rules (held (c .before)), c .before .before .before .before .before .before .before .before .before .pre .key-within, c .before .before .before .before .before .before .before .before .before .pre .short)
-
-same-length : tie.Need-same-length
-same-length c = search needs
+notify-requires c κs =
+    let k = c .before .before .before .before .before .before .before .before .before in
+    (lent-some (held (c .before)), lent-rules (held (c .before)), k .pre .key-within, k .pre .short)
 
 returns : tie.Need-returns
-returns c = lent-notified (held (c .before .before .before .before)) (c .before .before .before .before .before .before .before .before .before .before .before .before .args .body .now) (c .before .before .before .before .before .before .before .before .before .before .before .before .args .key) (c .before .before .notify .ensures)
+returns c =
+    let k = c .before .before .before .before .before .before .before .before .before .before .before .before in
+    lent-notified (held (c .before .before .before .before)) (k .args .body .now) (k .args .key)
+    (c .before .before .notify .ensures)
 
 pub notify-spec : {M : Type 1} → statement M
 notify-spec =
@@ -50,9 +52,9 @@ notify-spec =
     slot-start-requires
     slot-end-requires
     record-room-requires
-    sub-notify
-    part-notify-start
+    (λ c. search needs)
+    (λ c. search needs)
     part-notify-end
     notify-requires
-    same-length
+    (λ c. search needs)
     returns)

@@ -7,12 +7,16 @@ use Rattle.memory.proofs.Returned.{lent-owed}
 use Rattle.memory.proofs.queues.owe.Statement.{statement}
 use Rattle.memory.proofs.queues.owe.Tie as tie
 
+-- the bounds of the lent slot
 held : (c : tie.After-record-room)
-    → Lent (c .before .before .before .before .before .before .before .before .args .mem .now) (c .before .before .before .before .before .before .before .before .args .i) (c .before .before .before .before .slot-start .result) (c .before .before .slot-end .result)
+    → Lent (c .before .before .before .before .before .before .before .before .args .mem .now)
+    (c .before .before .before .before .before .before .before .before .args .i)
+    (c .before .before .before .before .slot-start .result) (c .before .before .slot-end .result)
     (c .record-room .result)
 held c =
+    let k = c .before .before .before .before .before .before .before .before in
     record {
-      in-slot = c .before .before .before .before .before .before .before .before .pre .in-open .in-slot;
+      in-slot = k .pre .in-open .in-slot;
       start = c .before .before .before .before .slot-start .ensures;
       end = c .before .before .slot-end .ensures;
       room = c .record-room .ensures;
@@ -25,25 +29,24 @@ slot-end-requires : tie.Need-slot-end-requires
 slot-end-requires c κs = up-to-slot (c .before .before .before .before .before .pre .in-open .in-slot)
 
 record-room-requires : tie.Need-record-room-requires
-record-room-requires c κs = c .before .before .before .before .before .before .before .pre .in-open .in-slot .sound .headed .header
-
-sub-owe : tie.Need-sub-owe
-sub-owe c = search needs
-
-part-owe-start : tie.Need-part-owe-start
-part-owe-start c = search needs
+record-room-requires c κs =
+    let k = c .before .before .before .before .before .before .before in
+    k .pre .in-open .in-slot .sound .headed .header
 
 part-owe-end : tie.Need-part-owe-end
-part-owe-end c = let h = lent-within (held (c)) in search needs
+part-owe-end c = let h = lent-within (held c) in search needs
 
 owe-requires : tie.Need-owe-requires
-owe-requires c κs = (lent-open (held (c .before)) (c .before .before .before .before .before .before .before .before .before .pre .in-open .has-open), c .before .before .before .before .before .before .before .before .before .pre .short)
-
-same-length : tie.Need-same-length
-same-length c = search needs
+owe-requires c κs =
+    let k = c .before .before .before .before .before .before .before .before .before in
+    (lent-open (held (c .before)) (k .pre .in-open .has-open), k .pre .short)
 
 returns : tie.Need-returns
-returns c = lent-owed (held (c .before .before .before .before)) (said (c .before .before .before .before .before .before .before .before .before .before .before .before .args .message) (c .before .before .before .before .before .before .before .before .before .before .before .before .args .body .now)) (open-used (slotIn (c .before .before .before .before .before .before .before .before .before .before .before .before .args .i) (imageOf (c .before .before .before .before .before .before .before .before .before .before .before .before .args .mem .now))) (c .before .before .before .before .before .before .before .before .before .before .before .before .pre .in-open .has-open)) (c .before .before .owe .ensures)
+returns c =
+    let k = c .before .before .before .before .before .before .before .before .before .before .before .before in
+    lent-owed (held (c .before .before .before .before)) (said (k .args .message) (k .args .body .now))
+    (open-used (slotIn (k .args .i) (imageOf (k .args .mem .now))) (k .pre .in-open .has-open))
+    (c .before .before .owe .ensures)
 
 pub owe-spec : {M : Type 1} → statement M
 owe-spec =
@@ -52,9 +55,9 @@ owe-spec =
     slot-start-requires
     slot-end-requires
     record-room-requires
-    sub-owe
-    part-owe-start
+    (λ c. search needs)
+    (λ c. search needs)
     part-owe-end
     owe-requires
-    same-length
+    (λ c. search needs)
     returns)

@@ -7,12 +7,16 @@ use Rattle.memory.proofs.Returned.{lent-changes}
 use Rattle.memory.proofs.queues.refuse.Statement.{statement}
 use Rattle.memory.proofs.queues.refuse.Tie as tie
 
+-- the bounds of the lent slot
 held : (c : tie.After-record-room)
-    → Lent (c .before .before .before .before .before .before .before .args .mem .now) (c .before .before .before .before .before .before .before .args .i) (c .before .before .before .before .slot-start .result) (c .before .before .slot-end .result)
+    → Lent (c .before .before .before .before .before .before .before .args .mem .now)
+    (c .before .before .before .before .before .before .before .args .i)
+    (c .before .before .before .before .slot-start .result) (c .before .before .slot-end .result)
     (c .record-room .result)
 held c =
+    let k = c .before .before .before .before .before .before .before in
     record {
-      in-slot = c .before .before .before .before .before .before .before .pre .in-slot;
+      in-slot = k .pre .in-slot;
       start = c .before .before .before .before .slot-start .ensures;
       end = c .before .before .slot-end .ensures;
       room = c .record-room .ensures;
@@ -27,23 +31,20 @@ slot-end-requires c κs = up-to-slot (c .before .before .before .before .pre .in
 record-room-requires : tie.Need-record-room-requires
 record-room-requires c κs = c .before .before .before .before .before .before .pre .in-slot .sound .headed .header
 
-sub-refuse : tie.Need-sub-refuse
-sub-refuse c = search needs
-
-part-refuse-start : tie.Need-part-refuse-start
-part-refuse-start c = search needs
-
 part-refuse-end : tie.Need-part-refuse-end
-part-refuse-end c = let h = lent-within (held (c)) in search needs
+part-refuse-end c = let h = lent-within (held c) in search needs
 
 refuse-requires : tie.Need-refuse-requires
-refuse-requires c κs = lent-open (held (c .before)) (c .before .before .before .before .before .before .before .before .pre .has-open)
-
-same-length : tie.Need-same-length
-same-length c = search needs
+refuse-requires c κs =
+    let k = c .before .before .before .before .before .before .before .before in
+    lent-open (held (c .before)) (k .pre .has-open)
 
 returns : tie.Need-returns
-returns c = lent-changes (held (c .before .before .before .before)) (refused (c .before .before .before .before .before .before .before .before .before .before .before .args .refusal)) (open-used (slotIn (c .before .before .before .before .before .before .before .before .before .before .before .args .i) (imageOf (c .before .before .before .before .before .before .before .before .before .before .before .args .mem .now))) (c .before .before .before .before .before .before .before .before .before .before .before .pre .has-open)) (c .before .before .refuse .ensures)
+returns c =
+    let k = c .before .before .before .before .before .before .before .before .before .before .before in
+    lent-changes (held (c .before .before .before .before)) (refused (k .args .refusal))
+    (open-used (slotIn (k .args .i) (imageOf (k .args .mem .now))) (k .pre .has-open))
+    (c .before .before .refuse .ensures)
 
 pub refuse-spec : {M : Type 1} → statement M
 refuse-spec =
@@ -52,9 +53,9 @@ refuse-spec =
     slot-start-requires
     slot-end-requires
     record-room-requires
-    sub-refuse
-    part-refuse-start
+    (λ c. search needs)
+    (λ c. search needs)
     part-refuse-end
     refuse-requires
-    same-length
+    (λ c. search needs)
     returns)

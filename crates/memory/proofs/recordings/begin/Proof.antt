@@ -9,12 +9,16 @@ use Rattle.memory.proofs.Returned.{lent-changes}
 use Rattle.memory.proofs.recordings.begin.Statement.{statement}
 use Rattle.memory.proofs.recordings.begin.Tie as tie
 
+-- the bounds of the lent slot
 held : (c : tie.After-record-room)
-    → Lent (c .before .before .before .before .before .before .before .args .mem .now) (c .before .before .before .before .before .before .before .args .i) (c .before .before .before .before .slot-start .result) (c .before .before .slot-end .result)
+    → Lent (c .before .before .before .before .before .before .before .args .mem .now)
+    (c .before .before .before .before .before .before .before .args .i)
+    (c .before .before .before .before .slot-start .result) (c .before .before .slot-end .result)
     (c .record-room .result)
 held c =
+    let k = c .before .before .before .before .before .before .before in
     record {
-      in-slot = c .before .before .before .before .before .before .before .pre .in-slot;
+      in-slot = k .pre .in-slot;
       start = c .before .before .before .before .slot-start .ensures;
       end = c .before .before .slot-end .ensures;
       room = c .record-room .ensures;
@@ -29,23 +33,20 @@ slot-end-requires c κs = up-to-slot (c .before .before .before .before .pre .in
 record-room-requires : tie.Need-record-room-requires
 record-room-requires c κs = c .before .before .before .before .before .before .pre .in-slot .sound .headed .header
 
-sub-begin : tie.Need-sub-begin
-sub-begin c = search needs
-
-part-begin-start : tie.Need-part-begin-start
-part-begin-start c = search needs
-
 part-begin-end : tie.Need-part-begin-end
-part-begin-end c = let h = lent-within (held (c)) in search needs
+part-begin-end c = let h = lent-within (held c) in search needs
 
 begin-requires : tie.Need-begin-requires
-begin-requires c κs = lent-open (held (c .before)) (c .before .before .before .before .before .before .before .before .pre .has-open)
-
-same-length : tie.Need-same-length
-same-length c = search needs
+begin-requires c κs =
+    let k = c .before .before .before .before .before .before .before .before in
+    lent-open (held (c .before)) (k .pre .has-open)
 
 returns : tie.Need-returns
-returns c = lent-changes (held (c .before .before .before .before)) (withRecording (some [])) (open-used (slotIn (c .before .before .before .before .before .before .before .before .before .before .before .args .i) (imageOf (c .before .before .before .before .before .before .before .before .before .before .before .args .mem .now))) (c .before .before .before .before .before .before .before .before .before .before .before .pre .has-open)) (c .before .before .begin .ensures)
+returns c =
+    let k = c .before .before .before .before .before .before .before .before .before .before .before in
+    lent-changes (held (c .before .before .before .before)) (withRecording (some []))
+    (open-used (slotIn (k .args .i) (imageOf (k .args .mem .now))) (k .pre .has-open))
+    (c .before .before .begin .ensures)
 
 pub begin-spec : {M : Type 1} → statement M
 begin-spec =
@@ -54,9 +55,9 @@ begin-spec =
     slot-start-requires
     slot-end-requires
     record-room-requires
-    sub-begin
-    part-begin-start
+    (λ c. search needs)
+    (λ c. search needs)
     part-begin-end
     begin-requires
-    same-length
+    (λ c. search needs)
     returns)

@@ -8,12 +8,16 @@ use Rattle.memory.proofs.Returned.{lent-changes}
 use Rattle.memory.proofs.recordings.end_recording.Statement.{statement}
 use Rattle.memory.proofs.recordings.end_recording.Tie as tie
 
+-- the bounds of the lent slot
 held : (c : tie.After-record-room)
-    → Lent (c .before .before .before .before .before .before .before .args .mem .now) (c .before .before .before .before .before .before .before .args .i) (c .before .before .before .before .slot-start .result) (c .before .before .slot-end .result)
+    → Lent (c .before .before .before .before .before .before .before .args .mem .now)
+    (c .before .before .before .before .before .before .before .args .i)
+    (c .before .before .before .before .slot-start .result) (c .before .before .slot-end .result)
     (c .record-room .result)
 held c =
+    let k = c .before .before .before .before .before .before .before in
     record {
-      in-slot = c .before .before .before .before .before .before .before .pre .in-slot;
+      in-slot = k .pre .in-slot;
       start = c .before .before .before .before .slot-start .ensures;
       end = c .before .before .slot-end .ensures;
       room = c .record-room .ensures;
@@ -28,23 +32,20 @@ slot-end-requires c κs = up-to-slot (c .before .before .before .before .pre .in
 record-room-requires : tie.Need-record-room-requires
 record-room-requires c κs = c .before .before .before .before .before .before .pre .in-slot .sound .headed .header
 
-sub-end-recording : tie.Need-sub-end-recording
-sub-end-recording c = search needs
-
-part-end-recording-start : tie.Need-part-end-recording-start
-part-end-recording-start c = search needs
-
 part-end-recording-end : tie.Need-part-end-recording-end
-part-end-recording-end c = let h = lent-within (held (c)) in search needs
+part-end-recording-end c = let h = lent-within (held c) in search needs
 
 end-recording-requires : tie.Need-end-recording-requires
-end-recording-requires c κs = lent-open (held (c .before)) (c .before .before .before .before .before .before .before .before .pre .has-open)
-
-same-length : tie.Need-same-length
-same-length c = search needs
+end-recording-requires c κs =
+    let k = c .before .before .before .before .before .before .before .before in
+    lent-open (held (c .before)) (k .pre .has-open)
 
 returns : tie.Need-returns
-returns c = lent-changes (held (c .before .before .before .before)) (withRecording none) (open-used (slotIn (c .before .before .before .before .before .before .before .before .before .before .before .args .i) (imageOf (c .before .before .before .before .before .before .before .before .before .before .before .args .mem .now))) (c .before .before .before .before .before .before .before .before .before .before .before .pre .has-open)) (c .before .before .end-recording .ensures)
+returns c =
+    let k = c .before .before .before .before .before .before .before .before .before .before .before in
+    lent-changes (held (c .before .before .before .before)) (withRecording none)
+    (open-used (slotIn (k .args .i) (imageOf (k .args .mem .now))) (k .pre .has-open))
+    (c .before .before .end-recording .ensures)
 
 pub end-recording-spec : {M : Type 1} → statement M
 end-recording-spec =
@@ -53,9 +54,9 @@ end-recording-spec =
     slot-start-requires
     slot-end-requires
     record-room-requires
-    sub-end-recording
-    part-end-recording-start
+    (λ c. search needs)
+    (λ c. search needs)
     part-end-recording-end
     end-recording-requires
-    same-length
+    (λ c. search needs)
     returns)

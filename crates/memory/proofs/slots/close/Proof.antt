@@ -8,10 +8,14 @@ use Rattle.memory.proofs.Returned.{lent-becomes}
 use Rattle.memory.proofs.slots.close.Statement.{statement}
 use Rattle.memory.proofs.slots.close.Tie as tie
 
+-- the bounds of the lent slot
 held : (c : tie.After-slot-end)
-    → Lent (c .before .before .before .before .before .args .mem .now) (c .before .before .before .before .before .args .i) (c .before .before .slot-start .result) (c .slot-end .result)
+    → Lent (c .before .before .before .before .before .args .mem .now)
+    (c .before .before .before .before .before .args .i) (c .before .before .slot-start .result) (c .slot-end .result)
     (sizesOf (c .before .before .before .before .before .args .mem .now) .recordRoom)
-held c = lent (c .before .before .before .before .before .pre) (c .before .before .slot-start .ensures) (c .slot-end .ensures)
+held c =
+    let k = c .before .before .before .before .before in
+    lent (k .pre) (c .before .before .slot-start .ensures) (c .slot-end .ensures)
 
 slot-start-requires : tie.Need-slot-start-requires
 slot-start-requires c κs = up-to-slot (c .before .before .pre)
@@ -19,23 +23,14 @@ slot-start-requires c κs = up-to-slot (c .before .before .pre)
 slot-end-requires : tie.Need-slot-end-requires
 slot-end-requires c κs = up-to-slot (c .before .before .before .before .pre)
 
-sub-close : tie.Need-sub-close
-sub-close c = search needs
-
-part-close-start : tie.Need-part-close-start
-part-close-start c = search needs
-
 part-close-end : tie.Need-part-close-end
-part-close-end c = let h = lent-within (held (c)) in search needs
-
-close-requires : tie.Need-close-requires
-close-requires c κs = search needs
-
-same-length : tie.Need-same-length
-same-length c = search needs
+part-close-end c = let h = lent-within (held c) in search needs
 
 returns : tie.Need-returns
-returns c = lent-becomes (held (c .before .before .before .before)) (λ x. free) (c .before .before .close .ensures (sizesOf (c .before .before .before .before .before .before .before .before .before .args .mem .now) .recordRoom)) refl
+returns c =
+    let k = c .before .before .before .before .before .before .before .before .before in
+    lent-becomes (held (c .before .before .before .before)) (λ x. free)
+    (c .before .before .close .ensures (sizesOf (k .args .mem .now) .recordRoom)) refl
 
 pub close-spec : {M : Type 1} → statement M
 close-spec =
@@ -43,9 +38,9 @@ close-spec =
     (tie.spec
     slot-start-requires
     slot-end-requires
-    sub-close
-    part-close-start
+    (λ c. search needs)
+    (λ c. search needs)
     part-close-end
-    close-requires
-    same-length
+    (λ c κs. search needs)
+    (λ c. search needs)
     returns)

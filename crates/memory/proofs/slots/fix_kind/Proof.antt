@@ -7,10 +7,14 @@ use Rattle.memory.proofs.Returned.{lent-changes}
 use Rattle.memory.proofs.slots.fix_kind.Statement.{statement}
 use Rattle.memory.proofs.slots.fix_kind.Tie as tie
 
+-- the bounds of the lent slot
 held : (c : tie.After-slot-end)
-    → Lent (c .before .before .before .before .before .args .mem .now) (c .before .before .before .before .before .args .i) (c .before .before .slot-start .result) (c .slot-end .result)
+    → Lent (c .before .before .before .before .before .args .mem .now)
+    (c .before .before .before .before .before .args .i) (c .before .before .slot-start .result) (c .slot-end .result)
     (sizesOf (c .before .before .before .before .before .args .mem .now) .recordRoom)
-held c = lent (c .before .before .before .before .before .pre .in-slot) (c .before .before .slot-start .ensures) (c .slot-end .ensures)
+held c =
+    let k = c .before .before .before .before .before in
+    lent (k .pre .in-slot) (c .before .before .slot-start .ensures) (c .slot-end .ensures)
 
 slot-start-requires : tie.Need-slot-start-requires
 slot-start-requires c κs = up-to-slot (c .before .before .pre .in-slot)
@@ -18,24 +22,15 @@ slot-start-requires c κs = up-to-slot (c .before .before .pre .in-slot)
 slot-end-requires : tie.Need-slot-end-requires
 slot-end-requires c κs = up-to-slot (c .before .before .before .before .pre .in-slot)
 
-sub-fix-kind : tie.Need-sub-fix-kind
-sub-fix-kind c = search needs
-
-part-fix-kind-start : tie.Need-part-fix-kind-start
-part-fix-kind-start c = search needs
-
 part-fix-kind-end : tie.Need-part-fix-kind-end
-part-fix-kind-end c = let h = lent-within (held (c)) in search needs
-
-fix-kind-requires : tie.Need-fix-kind-requires
-fix-kind-requires c κs = search needs
-
-same-length : tie.Need-same-length
-same-length c = search needs
+part-fix-kind-end c = let h = lent-within (held c) in search needs
 
 returns : tie.Need-returns
-returns c = lent-changes (held (c .before .before .before .before)) (withKind (c .before .before .before .before .before .before .before .before .before .args .kind)) (c .before .before .before .before .before .before .before .before .before .pre .has-client)
-    (c .before .before .fix-kind .ensures (sizesOf (c .before .before .before .before .before .before .before .before .before .args .mem .now) .recordRoom) (lent-used (held (c .before .before .before .before)) (c .before .before .before .before .before .before .before .before .before .pre .has-client)))
+returns c =
+    let k = c .before .before .before .before .before .before .before .before .before in
+    lent-changes (held (c .before .before .before .before)) (withKind (k .args .kind)) (k .pre .has-client)
+    (c .before .before .fix-kind .ensures (sizesOf (k .args .mem .now) .recordRoom)
+    (lent-used (held (c .before .before .before .before)) (k .pre .has-client)))
 
 pub fix-kind-spec : {M : Type 1} → statement M
 fix-kind-spec =
@@ -43,9 +38,9 @@ fix-kind-spec =
     (tie.spec
     slot-start-requires
     slot-end-requires
-    sub-fix-kind
-    part-fix-kind-start
+    (λ c. search needs)
+    (λ c. search needs)
     part-fix-kind-end
-    fix-kind-requires
-    same-length
+    (λ c κs. search needs)
+    (λ c. search needs)
     returns)

@@ -1,15 +1,19 @@
 -- `memory::slots::is_free` meets its contract.
-use mathlib.Core.Path.{_≡_, _∙_}
+use mathlib.Core.Path.{_∙_}
 use borrow.Author.Needs.{needs}
 use Rattle.memory.specs.Layout.{sizesOf}
 use Rattle.memory.proofs.Lent.{Lent, up-to-slot, lent-within, lent, lent-free}
 use Rattle.memory.proofs.slots.is_free.Statement.{statement}
 use Rattle.memory.proofs.slots.is_free.Tie as tie
 
+-- the bounds of the lent slot
 held : (c : tie.After-slot-end)
-    → Lent (c .before .before .before .args .mem .now) (c .before .before .before .args .i) (c .before .slot-start .result) (c .slot-end .result)
+    → Lent (c .before .before .before .args .mem .now) (c .before .before .before .args .i)
+    (c .before .slot-start .result) (c .slot-end .result)
     (sizesOf (c .before .before .before .args .mem .now) .recordRoom)
-held c = lent (c .before .before .before .pre) (c .before .slot-start .ensures) (c .slot-end .ensures)
+held c =
+    let k = c .before .before .before in
+    lent (k .pre) (c .before .slot-start .ensures) (c .slot-end .ensures)
 
 slot-start-requires : tie.Need-slot-start-requires
 slot-start-requires c κs = up-to-slot (c .before .pre)
@@ -17,17 +21,8 @@ slot-start-requires c κs = up-to-slot (c .before .pre)
 slot-end-requires : tie.Need-slot-end-requires
 slot-end-requires c κs = up-to-slot (c .before .before .pre)
 
-sub-is-free : tie.Need-sub-is-free
-sub-is-free c = search needs
-
-part-is-free-start : tie.Need-part-is-free-start
-part-is-free-start c = search needs
-
 part-is-free-end : tie.Need-part-is-free-end
-part-is-free-end c = let h = lent-within (held (c)) in search needs
-
-is-free-requires : tie.Need-is-free-requires
-is-free-requires c κs = search needs
+part-is-free-end c = let h = lent-within (held c) in search needs
 
 returns : tie.Need-returns
 returns c = c .is-free .ensures ∙ lent-free (held (c .before .before))
@@ -38,8 +33,8 @@ is-free-spec =
     (tie.spec
     slot-start-requires
     slot-end-requires
-    sub-is-free
-    part-is-free-start
+    (λ c. search needs)
+    (λ c. search needs)
     part-is-free-end
-    is-free-requires
+    (λ c κs. search needs)
     returns)

@@ -7,12 +7,16 @@ use Rattle.memory.proofs.Returned.{lent-becomes}
 use Rattle.memory.proofs.slots.open.Statement.{statement}
 use Rattle.memory.proofs.slots.open.Tie as tie
 
+-- the bounds of the lent slot
 held : (c : tie.After-record-room)
-    → Lent (c .before .before .before .before .before .before .before .args .mem .now) (c .before .before .before .before .before .before .before .args .i) (c .before .before .before .before .slot-start .result) (c .before .before .slot-end .result)
+    → Lent (c .before .before .before .before .before .before .before .args .mem .now)
+    (c .before .before .before .before .before .before .before .args .i)
+    (c .before .before .before .before .slot-start .result) (c .before .before .slot-end .result)
     (c .record-room .result)
 held c =
+    let k = c .before .before .before .before .before .before .before in
     record {
-      in-slot = c .before .before .before .before .before .before .before .pre;
+      in-slot = k .pre;
       start = c .before .before .before .before .slot-start .ensures;
       end = c .before .before .slot-end .ensures;
       room = c .record-room .ensures;
@@ -27,23 +31,17 @@ slot-end-requires c κs = up-to-slot (c .before .before .before .before .pre)
 record-room-requires : tie.Need-record-room-requires
 record-room-requires c κs = c .before .before .before .before .before .before .pre .sound .headed .header
 
-sub-open : tie.Need-sub-open
-sub-open c = search needs
-
-part-open-start : tie.Need-part-open-start
-part-open-start c = search needs
-
 part-open-end : tie.Need-part-open-end
-part-open-end c = let h = lent-within (held (c)) in search needs
+part-open-end c = let h = lent-within (held c) in search needs
 
 open-requires : tie.Need-open-requires
 open-requires c κs = lent-sized (held (c .before))
 
-same-length : tie.Need-same-length
-same-length c = search needs
-
 returns : tie.Need-returns
-returns c = lent-becomes (held (c .before .before .before .before)) (λ x. used (opened (c .before .before .before .before .before .before .before .before .before .before .before .args .kind))) (c .before .before .«open» .ensures) refl
+returns c =
+    let k = c .before .before .before .before .before .before .before .before .before .before .before in
+    lent-becomes (held (c .before .before .before .before)) (λ x. used (opened (k .args .kind)))
+    (c .before .before .«open» .ensures) refl
 
 pub open-spec : {M : Type 1} → statement M
 open-spec =
@@ -52,9 +50,9 @@ open-spec =
     slot-start-requires
     slot-end-requires
     record-room-requires
-    sub-open
-    part-open-start
+    (λ c. search needs)
+    (λ c. search needs)
     part-open-end
     open-requires
-    same-length
+    (λ c. search needs)
     returns)

@@ -5,7 +5,8 @@ ghost use Prim.Native.Nat.{ℕ, _+_, _≤_};
 ghost use lib.ListN.{length};
 ghost use Rattle.slot.specs.Image.{used, notified, onClient};
 ghost use Rattle.slot.specs.Region.{SlotRules, clientOf, slotOf};
-ghost use Rattle.slot.specs.Contracts.{roomOf, HasOpen, IsOpen, IsAddable, Becomes, PatternFits, Adding, Removing};
+ghost use Rattle.slot.specs.Contracts.{roomOf, HasOpen, IsOpen, IsAddable, Becomes};
+ghost use Rattle.slot.specs.Contracts.{PatternFits, Adding, Removing};
 
 // Whether the client may add the pattern: it holds it already, or has fewer than sixteen.
 pub fn pattern_fits(s: &[u8], pattern: &[u8]) -> bool
@@ -39,7 +40,8 @@ pub fn remove_pattern(s: &mut [u8], pattern: &[u8])
 fn notify_open(s: &mut [u8], r: usize, body: &[u8], key: usize)
     requires { ⌜ (HasOpen r (now s)) × (key ≤ length (now body)) × (length (now body) ≤ 65535) ⌝ }
     ensures { λ _. ⌜ Becomes r (now (s .entry)) (now (s .exit))
-        (used (notified (roomOf r (now (s .entry))) (now (body .entry)) key (clientOf r (now (s .entry))))) ⌝ }
+        (used (notified (roomOf r (now (s .entry))) (now (body .entry)) key
+        (clientOf r (now (s .entry))))) ⌝ }
 {
     if subscriptions::any_accepts(&s[4..4104], &body[..key]) {
         crate::queueing::owe(s, r, Message::Info, body);
@@ -49,9 +51,11 @@ fn notify_open(s: &mut [u8], r: usize, body: &[u8], key: usize)
 // Owes an open client that holds a pattern for the key an INFO with this body; the key is the first
 // `key` bytes of it. A free slot and a shut client stay as they are.
 pub fn notify(s: &mut [u8], r: usize, body: &[u8], key: usize)
-    requires { ⌜ (1 ≤ length (now s)) × (SlotRules r (now s)) × (key ≤ length (now body)) × (length (now body) ≤ 65535) ⌝ }
+    requires { ⌜ (1 ≤ length (now s)) × (SlotRules r (now s)) × (key ≤ length (now body))
+        × (length (now body) ≤ 65535) ⌝ }
     ensures { λ _. ⌜ Becomes r (now (s .entry)) (now (s .exit))
-        (onClient (notified (roomOf r (now (s .entry))) (now (body .entry)) key) (slotOf r (now (s .entry)))) ⌝ }
+        (onClient (notified (roomOf r (now (s .entry))) (now (body .entry)) key)
+        (slotOf r (now (s .entry)))) ⌝ }
 {
     if s[0] != 1 {
         return;

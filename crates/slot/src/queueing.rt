@@ -29,7 +29,8 @@ pub fn first_length(s: &[u8], r: usize) -> usize
 
 // Takes the client's first message: it goes to the front of out, which has room for it. Gives its length.
 pub fn take(s: &mut [u8], r: usize, out: &mut [u8]) -> usize
-    requires { ⌜ (HasResting r (now s)) × (firstLength (clientOf r (now s) .queue .queued) ≤ length (now out)) ⌝ }
+    requires { ⌜ (HasResting r (now s))
+        × (firstLength (clientOf r (now s) .queue .queued) ≤ length (now out)) ⌝ }
     ensures { λ n. ⌜ Taking r (now (s .entry)) (now (out .entry)) n (now (s .exit)) (now (out .exit)) ⌝ }
 {
     queue::take(&mut s[4116 + r..], out)
@@ -39,7 +40,8 @@ pub fn take(s: &mut [u8], r: usize, out: &mut [u8]) -> usize
 pub fn owe(s: &mut [u8], r: usize, message: Message, body: &[u8])
     requires { ⌜ (HasOpen r (now s)) × (length (now body) ≤ 65535) ⌝ }
     ensures { λ _. ⌜ Becomes r (now (s .entry)) (now (s .exit))
-        (used (owed (roomOf r (now (s .entry))) (said message (now (body .entry))) (clientOf r (now (s .entry))))) ⌝ }
+        (used (owed (roomOf r (now (s .entry))) (said message (now (body .entry)))
+        (clientOf r (now (s .entry))))) ⌝ }
 {
     let kind = crate::kind(&s[..]);
     queue::owe(&mut s[4116 + r..], kind, message, body);
@@ -48,7 +50,8 @@ pub fn owe(s: &mut [u8], r: usize, message: Message, body: &[u8])
 // Shuts the open client: its patterns, its recording and what is pending go, and the ERROR is queued.
 pub fn refuse(s: &mut [u8], r: usize, refusal: Refusal)
     requires { ⌜ HasOpen r (now s) ⌝ }
-    ensures { λ _. ⌜ Becomes r (now (s .entry)) (now (s .exit)) (used (refused refusal (clientOf r (now (s .entry))))) ⌝ }
+    ensures { λ _. ⌜ Becomes r (now (s .entry)) (now (s .exit))
+        (used (refused refusal (clientOf r (now (s .entry))))) ⌝ }
 {
     let kind = crate::kind(&s[..]);
     s[0] = 2;
@@ -60,7 +63,8 @@ pub fn refuse(s: &mut [u8], r: usize, refusal: Refusal)
 // fit.
 fn settle_open(s: &mut [u8], r: usize)
     requires { ⌜ HasOpen r (now s) ⌝ }
-    ensures { λ _. ⌜ Becomes r (now (s .entry)) (now (s .exit)) (used (settled (clientOf r (now (s .entry))))) ⌝ }
+    ensures { λ _. ⌜ Becomes r (now (s .entry)) (now (s .exit))
+        (used (settled (clientOf r (now (s .entry))))) ⌝ }
 {
     if queue::is_overflown(&s[4116 + r..]) {
         refuse(s, r, Refusal::Room);
@@ -73,7 +77,8 @@ fn settle_open(s: &mut [u8], r: usize)
 // shut client stay as they are.
 pub fn settle(s: &mut [u8], r: usize)
     requires { ⌜ (1 ≤ length (now s)) × (SlotRules r (now s)) ⌝ }
-    ensures { λ _. ⌜ Becomes r (now (s .entry)) (now (s .exit)) (onClient settled (slotOf r (now (s .entry)))) ⌝ }
+    ensures { λ _. ⌜ Becomes r (now (s .entry)) (now (s .exit))
+        (onClient settled (slotOf r (now (s .entry)))) ⌝ }
 {
     if s[0] != 1 {
         return;

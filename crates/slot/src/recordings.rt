@@ -20,7 +20,8 @@ pub fn is_recording(s: &[u8], r: usize) -> bool
 // Starts an empty recording.
 pub fn begin(s: &mut [u8], r: usize)
     requires { ⌜ HasOpen r (now s) ⌝ }
-    ensures { λ _. ⌜ Becomes r (now (s .entry)) (now (s .exit)) (used (withRecording (some []) (clientOf r (now (s .entry))))) ⌝ }
+    ensures { λ _. ⌜ Becomes r (now (s .entry)) (now (s .exit))
+        (used (withRecording (some []) (clientOf r (now (s .entry))))) ⌝ }
 {
     recording::begin(&mut s[4104..4116 + r]);
 }
@@ -28,7 +29,8 @@ pub fn begin(s: &mut [u8], r: usize)
 // Ends the recording.
 pub fn end_recording(s: &mut [u8], r: usize)
     requires { ⌜ HasOpen r (now s) ⌝ }
-    ensures { λ _. ⌜ Becomes r (now (s .entry)) (now (s .exit)) (used (withRecording none (clientOf r (now (s .entry))))) ⌝ }
+    ensures { λ _. ⌜ Becomes r (now (s .entry)) (now (s .exit))
+        (used (withRecording none (clientOf r (now (s .entry))))) ⌝ }
 {
     recording::clear(&mut s[4104..4116 + r]);
 }

@@ -4,5 +4,6 @@ pub mod Fresh
 pub mod Lent
 pub mod Returned
 pub mod Stored
+pub mod Regions
 pub mod Fine
 pub mod Limits

@@ -18,7 +18,7 @@ use Rattle.recording.specs.Command.{actionOf, commandFine}
 use Rattle.slot.specs.Image.{ClientImage, taken, owed, notified, commandsOf, withPatterns, onClient}
 use Rattle.memory.specs.Layout.{mark, sizesOf, slotsStart, slotStart, memorySize}
 use Rattle.memory.specs.Image.{slotIn, isUsed, isOpen, clientAt, onSlot, imageOf, emptyImage}
-use Rattle.memory.specs.Rules.{Headed, Sound, memoryFine, Becomes}
+use Rattle.memory.specs.Rules.{Headed, Sound, memoryFine, KeptBehind, Becomes}
 
 -- a memory with a header, and the number of a slot or N
 pub record UpToSlot (m : Bytes) (i : ℕ) : Type 0 where
@@ -37,19 +37,22 @@ pub record Heading (z : Sizes) (m m′ : Bytes) : Type 0 where
   pub size : length m′ ≡ length m
   pub marked : numberAt 4 m′ 0 ≡ mark
   pub sizes : sizesOf m′ ≡ z
+  pub behind : KeptBehind z m m′
 
--- the first n slots are free, and what is before the slots is as it was
+-- the first n slots are free, and what is before and behind the slots is as it was
 pub record Freeing (z : Sizes) (m : Bytes) (n : ℕ) (m′ : Bytes) : Type 0 where
   pub size : length m′ ≡ length m
   pub front : take (slotsStart z) m′ ≡ take (slotsStart z) m
+  pub behind : KeptBehind z m m′
   pub freed : (i : ℕ) → i < n → getD m′ (slotStart z i) 0 ≡ 0
 
--- a memory is set up: as long as it was, its rules between calls hold, and it means an empty store and free slots.
--- The bytes of free slots and of unused rooms mean nothing and may be anything.
+-- a memory is set up: as long as it was, its rules between calls hold, it means an empty store and free slots, and
+-- what is behind the slots is as it was. The bytes of free slots and of unused rooms mean nothing and may be anything.
 pub record SetUp (z : Sizes) (m m′ : Bytes) : Type 0 where
   pub size : length m′ ≡ length m
   pub fine : memoryFine m′ ≡ true
   pub means : imageOf m′ ≡ emptyImage z
+  pub behind : KeptBehind z m m′
 
 -- ---- slots
 

@@ -3,7 +3,9 @@
 // Internal layer: what a function requires is its callers' to show. The sizes of a memory are read
 // from its header where they are needed.
 mod check;
+mod entries;
 mod header;
+mod parts;
 mod patterns;
 mod queues;
 mod recordings;
@@ -11,6 +13,8 @@ mod setting;
 mod slots;
 
 pub use check::is_fine;
+pub use entries::delete;
+pub use entries::write;
 pub use header::Sizes;
 pub use header::in_range;
 pub use header::queue_room;
@@ -23,6 +27,9 @@ pub use header::slot_size;
 pub use header::slot_start;
 pub use header::store_end;
 pub use header::store_room;
+pub use parts::recording_part;
+pub use parts::store_part;
+pub use parts::subscriptions_part;
 pub use patterns::add_pattern;
 pub use patterns::pattern_fits;
 pub use patterns::remove_pattern;

@@ -114,7 +114,7 @@ queued-for-ever protocol t j c w ys =
     (still c w [] tt (sym (append-nil (t .past))) [] (sym (append-nil (t .logs j .queued))))
 
 -- A step leaves a client where one was.
-stepped-used : (protocol : Protocol) (st : State) (i : ℕ) (k : Kind) (xs : List Action) (j : ℕ) (d : Client)
+pub stepped-used : (protocol : Protocol) (st : State) (i : ℕ) (k : Kind) (xs : List Action) (j : ℕ) (d : Client)
     → slotAt j st ≡ used d → (e : Client) × (slotAt j (afterEvent protocol (stepped i k xs) st) ≡ used e)
 unfolding slotAfterEvent onClient
 stepped-used protocol st i k xs j d w =

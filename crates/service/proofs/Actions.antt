@@ -30,7 +30,7 @@ cond-same : {A : Type 0} (b : Bool) (x : A) → cond b x x ≡ x
 cond-same true x = refl
 cond-same false x = refl
 
-onClient-equal : {f g : ClientImage → ClientImage} → ((c : ClientImage) → f c ≡ g c) → (x : SlotImage)
+pub onClient-equal : {f g : ClientImage → ClientImage} → ((c : ClientImage) → f c ≡ g c) → (x : SlotImage)
     → onClient f x ≡ onClient g x
 unfolding onClient
 onClient-equal e free = refl

@@ -5,3 +5,4 @@ pub mod Images
 pub mod Runs
 pub mod Actions
 pub mod Events
+pub mod Ends

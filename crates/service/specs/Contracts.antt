@@ -1,17 +1,19 @@
--- What the calls promise, for every memory and every argument: the numbers given back, and what the memory means
--- afterwards.
+-- What set up and the four calls after it promise, for every memory and every argument: the numbers given back, and
+-- what the memory means afterwards (document 01, "The numbers a call gives back").
 use mathlib.Core.Path.{_≡_}
 use mathlib.Core.List.{List, [], _∷_}
 use mathlib.Core.Bool.{Bool, true, false, cond}
 use Prim.Native.Nat.{ℕ, _≤_}
-use lib.ListN.{length, take, replicate}
+use lib.Dec.{leb}
+use lib.ListN.{length, take}
 use lib.Seq.{sets}
 use Rattle.octets.specs.Octets.{Bytes}
 use Rattle.protocol.specs.Terms.{Protocol}
-use Rattle.server.specs.State.{Sizes, State}
+use Rattle.server.specs.State.{Sizes, State, inRange}
 use Rattle.server.specs.Decision.{Call, opens, feeds, takes, closes, Reply}
-use Rattle.memory.specs.Image.{Image, imageOf}
-use Rattle.memory.specs.Rules.{memoryFine}
+use Rattle.memory.specs.Layout.{sizesOf, memorySize}
+use Rattle.memory.specs.Image.{Image, imageOf, emptyImage}
+use Rattle.memory.specs.Rules.{memoryFine, KeptBehind}
 use Rattle.service.specs.Service.{decide, afterEvent}
 use Rattle.service.specs.Represents.{stateImage}
 
@@ -28,6 +30,31 @@ pub record Holds (m : Bytes) (im : Image) : Type 0 where
 abbrev pub Represents : Bytes → State → Type 0
 Represents m st = Holds m (stateImage st)
 
+-- ---- set up
+
+-- the sizes that a set up names
+abbrev pub sizesWith : ℕ → ℕ → ℕ → ℕ → Sizes
+sizesWith n s q r = record { slotCount = n; storeRoom = s; queueRoom = q; recordRoom = r }
+
+-- the bytes that a set up needs; 0 where a size is out of range
+unfoldable pub sizeFor : Sizes → ℕ
+sizeFor z = cond (inRange z) (memorySize z) 0
+
+-- set up's answer: 8 for a size out of range, then 5 for a memory that is too short
+unfoldable pub setUpAnswer : Sizes → Bytes → ℕ
+setUpAnswer z m = cond (inRange z) (cond (leb (memorySize z) (length m)) 0 5) 8
+
+-- A set up that was lent the memory m gave these numbers and left m′. Answered 0, it leaves an empty store and free
+-- slots, whatever m held; what is behind the slots is as it was.
+pub record SetsUp (z : Sizes) (m : Bytes) (answer count : ℕ) (m′ : Bytes) : Type 0 where
+  pub answered : answer ≡ setUpAnswer z m
+  pub counted : count ≡ 0
+  pub unaltered : 1 ≤ answer → m′ ≡ m
+  pub next : answer ≡ 0 → Holds m′ (emptyImage z)
+  pub behind : KeptBehind z m m′
+
+-- ---- the calls after it
+
 module _ (protocol : Protocol) where
   -- what a call gives back, from the memory that it is lent: 7 before all else
   unfoldable pub replyTo : Call → Bytes → Reply
@@ -37,12 +64,14 @@ module _ (protocol : Protocol) where
   unfoldable pub imageAfter : Call → Bytes → Image
   imageAfter x m = afterEvent protocol (decide protocol x (imageOf m) .event) (imageOf m)
 
-  -- a call that was lent the memory m gave these numbers and left m′
+  -- A call that was lent the memory m gave these numbers and left m′. Beside the answers 1 to 8 every lent byte is as
+  -- it was; a memory that kept its rules keeps them, and what is behind its slots is as it was.
   pub record Serves (x : Call) (m : Bytes) (answer count : ℕ) (m′ : Bytes) : Type 0 where
     pub answered : answer ≡ replyTo x m .answer
     pub counted : count ≡ replyTo x m .count
     pub unaltered : 1 ≤ answer → answer ≤ 8 → m′ ≡ m
     pub next : memoryFine m ≡ true → Holds m′ (imageAfter x m)
+    pub behind : memoryFine m ≡ true → KeptBehind (sizesOf m) m m′
 
   -- a take that was lent the slice out left out′: the message stands at its front, and the rest is as it was
   pub record Takes (i : ℕ) (m out : Bytes) (answer count : ℕ) (m′ out′ : Bytes) : Type 0 where

@@ -1,7 +1,7 @@
 -- What `read` answers is what the message says: a command with its payload (`read-command`), or a blank line
 -- (`read-blank`); a buffer as long as the message always has room (`read-short`). So `cut`, then `read`, gives
 -- `received` (`read-received`).
-use mathlib.Core.Path.{_≡_, refl, sym, _∙_}
+use mathlib.Core.Path.{_≡_, refl, sym, subst, _∙_}
 use mathlib.Core.List.{[], _∷_}
 use mathlib.Core.Bool.{Bool, true, false, cond}
 use Prim.Native.Nat.{ℕ, _-_, _≤_, _<_}
@@ -14,7 +14,7 @@ use Rattle.octets.specs.Octets.{Bytes}
 use Rattle.protocol.specs.declared.Kind.{Kind}
 use Rattle.protocol.specs.declared.Kind.the-variants.{Packets, Stream, Framed, Text}
 use Rattle.protocol.specs.declared.Refusal.the-variants.{Room}
-use Rattle.protocol.specs.Terms.{whole}
+use Rattle.protocol.specs.Terms.{Action, commandId, plain, command, invalid, whole}
 use Rattle.protocol.specs.Terms as Terms
 use Rattle.framing.specs.Framing.{kindOf, endsLine, messageLength}
 use Rattle.framing.specs.Framing as Framing
@@ -25,6 +25,8 @@ use Rattle.command.specs.declared.Command.{Command as Command₁}
 use Rattle.command.specs.declared.Command.the-variants.{Refused}
 use Rattle.command.specs.Commands.{commandOf}
 use Rattle.command.specs.Meaning.{meant}
+use Rattle.command.specs.Sound.{SoundAction, SoundReading}
+use Rattle.command.proofs.SoundLaws.{reading-sound}
 use Rattle.wire.specs.Received.{binary, front, lastByte, textLine, decodedIn, readingLine, reading, isWhole}
 use Rattle.wire.specs.Received.{received}
 use Rattle.wire.specs.Post.{answerOf, roomIn, LeftIn, Left, ReadsIn, Reads, payloadIn, payloadPart}
@@ -82,6 +84,31 @@ module _ (k : Kind) (m buf buf′ : Bytes) where
       by true e a q = said (decodedIn k m) refl (leb-true _ _ e) a q
       by false e a q = let z : _≡_ {A = ℕ} 0 1 = cc in absurd (omega arith)
 
+  -- a plain command that was read, with its payload
+  sound-in : (c : Command₁) (n : ℕ) → ReadsIn k m buf (Command c n) buf′ → (a : Action)
+      → meant (payloadIn k m buf′ n) c ≡ command (plain a) → SoundAction (commandId a) (payloadIn k m buf′ n) a
+  unfolding meant
+  sound-in c n w a t = by (leb (roomIn k m) (length buf)) refl (w .answer) (w .left)
+    where
+      said : (l : Line) → decodedIn k m ≡ l → roomIn k m ≤ length buf → Command c n ≡ answerOf l → LeftIn k l buf buf′
+          → SoundAction (commandId a) (payloadIn k m buf′ n) a
+      said blank e h x q = let z : _≡_ {A = ℕ} 0 1 = cc in absurd (omega arith)
+      said (refused r) e h x q =
+          let f : c ≡ Refused r = cc in
+          let y : invalid r ≡ command (plain a) = rw f at t in
+          let z : _≡_ {A = ℕ} 0 1 = cc in absurd (omega arith)
+      said (message id p) e h x q =
+          let f : c ≡ commandOf id p = cc in
+          let g : n ≡ length p = cc in
+          let there = payload-there k m buf buf′ id p e h q in
+          let b : SoundAction id p a = subst (SoundReading id p) (rw (f, g, there) at t) (reading-sound id p) in
+          rw (g, there) (record { identity = refl; content = b .content; fits = b .fits; fine = b .fine })
+
+      by : (b : Bool) → leb (roomIn k m) (length buf) ≡ b → Command c n ≡ cond b (answerOf (decodedIn k m)) Short
+          → Left b k (decodedIn k m) buf buf′ → SoundAction (commandId a) (payloadIn k m buf′ n) a
+      by true e x q = said (decodedIn k m) refl (leb-true _ _ e) x q
+      by false e x q = let z : _≡_ {A = ℕ} 0 1 = cc in absurd (omega arith)
+
   -- a blank line
   blank-in : ReadsIn k m buf Blank buf′ → readingLine (decodedIn k m) ≡ Terms.blank
   blank-in w = by (leb (roomIn k m) (length buf)) (w .answer)
@@ -109,7 +136,7 @@ module _ (k : Kind) (m buf buf′ : Bytes) where
       by true e a = absurd (said (decodedIn k m) a)
       by false e a = leb-false _ _ e
 
-roomIn-le : (k : Kind) (m : Bytes) → roomIn k m ≤ length m
+pub roomIn-le : (k : Kind) (m : Bytes) → roomIn k m ≤ length m
 roomIn-le Packets m = omega arith
 roomIn-le Stream m = omega arith
 roomIn-le Framed m = omega arith
@@ -127,6 +154,15 @@ module _ (k : Kind) {m buf buf′ : Bytes} where
 
   pub read-blank : Reads k m buf Blank buf′ → reading k m ≡ Terms.blank
   read-blank w = blank-in (kindOf k m) m buf buf′ w
+
+  -- a plain command that was read is sound
+  pub read-sound : {c : Command₁} {n : ℕ} → Reads k m buf (Command c n) buf′ → (a : Action)
+      → meant (payloadPart k m buf′ n) c ≡ command (plain a) → SoundAction (commandId a) (payloadPart k m buf′ n) a
+  read-sound {c} {n} w = sound-in (kindOf k m) m buf buf′ c n w
+
+  -- only a buffer without room for the message is too short
+  pub read-no-room : Reads k m buf Short buf′ → length buf < roomIn (kindOf k m) m
+  read-no-room w = short-in (kindOf k m) m buf buf′ w
 
   -- only a buffer shorter than the message can lack room
   pub read-short : Reads k m buf Short buf′ → length buf < length m

@@ -1,0 +1,6 @@
+pub mod Each
+pub mod Clients
+pub mod Entries
+pub mod Walk
+pub mod Writes
+pub mod Turns

@@ -1,0 +1,200 @@
+// A step: each command at its turn changes the store and the patterns and owes messages, and at the
+// end every slot is settled. What is read from the store and owed to a client goes through a local
+// buffer, since both lie in the memory.
+ghost use mathlib.Core.Path.{_≡_};
+ghost use mathlib.Core.Bool.{true, not};
+ghost use Prim.Native.Nat.{_≤_};
+ghost use lib.ListN.{length};
+ghost use Rattle.octets.specs.Octets.{firstNul};
+ghost use Rattle.protocol.specs.Terms.{sub, read};
+ghost use Rattle.pattern.specs.Answer.{accepted};
+ghost use Rattle.store.specs.Region.{storeFine, storeOf};
+ghost use Rattle.recording.specs.Command.{actionOf};
+ghost use Rattle.infod3.specs.Infod3.{infod3};
+ghost use Rattle.memory.specs.Image.{imageOf};
+ghost use Rattle.memory.specs.Rules.{Sound, Becomes};
+ghost use Rattle.memory.specs.Contracts.{Owing};
+ghost use Rattle.service.specs.Turn.{afterTurn, settledImage};
+ghost use Rattle.step.specs.TurnParts.{Turning, EntryAt, entryKey, entryBody, entryInfo};
+ghost use Rattle.step.specs.TurnParts.{StoredAt, OwingIf, Copied, NotifyingAll};
+ghost use Rattle.step.specs.TurnParts.{Writing, Wrote, changedBy};
+use message::Message;
+
+// The turn of a command with this ID and payload, which is not refused.
+pub fn turn(mem: &mut [u8], slot: usize, id: u8, p: &[u8])
+    requires { ⌜ Turning (now mem) slot id (now p) ⌝ }
+    ensures { λ _. ⌜ Becomes (now (mem .entry)) (now (mem .exit))
+        (afterTurn infod3 slot (actionOf id (now (p .entry))) (imageOf (now (mem .entry)))) ⌝ }
+{
+    match id {
+        0 => memory::owe(mem, slot, Message::Version, b""),
+        1 => turn_sub(mem, slot, p),
+        2 => memory::remove_pattern(mem, slot, p),
+        3 => turn_read(mem, slot, p),
+        4 => turn_write(mem, p),
+        _ => memory::owe(mem, slot, Message::Pong, p),
+    }
+}
+
+// SUB: the pattern is added, and its client is owed an INFO for each entry that it matches.
+fn turn_sub(mem: &mut [u8], slot: usize, pattern: &[u8])
+    requires { ⌜ Turning (now mem) slot 1 (now pattern) ⌝ }
+    ensures { λ _. ⌜ Becomes (now (mem .entry)) (now (mem .exit))
+        (afterTurn infod3 slot (sub (now (pattern .entry))) (imageOf (now (mem .entry)))) ⌝ }
+{
+    memory::add_pattern(mem, slot, pattern);
+    let n = store::count(memory::store_part(&mem[..]));
+    let mut at = 0;
+    let mut passed = 0;
+    while passed < n {
+        owe_match(mem, slot, pattern, at);
+        at += store::row_size(memory::store_part(&mem[..]), at);
+        passed += 1;
+    }
+}
+
+// Owes the client an INFO of the entry whose row is at the offset, if the pattern matches its key.
+fn owe_match(mem: &mut [u8], slot: usize, pattern: &[u8], at: usize)
+    requires { ⌜ EntryAt (now mem) slot at ⌝ }
+    ensures { λ _. ⌜ OwingIf (accepted (now (pattern .entry)) (entryKey (now (mem .entry)) at)) slot
+        (entryInfo (now (mem .entry)) at) (now (mem .entry)) (now (mem .exit)) ⌝ }
+{
+    if pattern::accepts(pattern, store::key_at(memory::store_part(&mem[..]), at)) {
+        owe_entry(mem, slot, at);
+    }
+}
+
+// READ: an INFO with the key's value, or without one where the key is absent.
+fn turn_read(mem: &mut [u8], slot: usize, key: &[u8])
+    requires { ⌜ Turning (now mem) slot 3 (now key) ⌝ }
+    ensures { λ _. ⌜ Becomes (now (mem .entry)) (now (mem .exit))
+        (afterTurn infod3 slot (read (now (key .entry))) (imageOf (now (mem .entry)))) ⌝ }
+{
+    let place = store::find(memory::store_part(&mem[..]), key);
+    let at = place.at;
+    if place.len == 0 {
+        memory::owe(mem, slot, Message::Info, key);
+    } else {
+        owe_entry(mem, slot, at);
+    }
+}
+
+// Owes the client an INFO of the entry whose row is at the offset. What a buffer costs goes by its
+// length, so a short entry has a short one.
+fn owe_entry(mem: &mut [u8], slot: usize, at: usize)
+    requires { ⌜ EntryAt (now mem) slot at ⌝ }
+    ensures { λ _. ⌜ Owing slot (entryInfo (now (mem .entry)) at)
+        (now (mem .entry)) (now (mem .exit)) ⌝ }
+{
+    if 519 < store::row_size(memory::store_part(&mem[..]), at) {
+        owe_longer_entry(mem, slot, at);
+        return;
+    }
+    let mut buf = [0u8; 512];
+    owe_entry_with(mem, slot, at, &mut buf);
+}
+
+// The same with a longer buffer, where that is long enough.
+fn owe_longer_entry(mem: &mut [u8], slot: usize, at: usize)
+    requires { ⌜ EntryAt (now mem) slot at ⌝ }
+    ensures { λ _. ⌜ Owing slot (entryInfo (now (mem .entry)) at)
+        (now (mem .entry)) (now (mem .exit)) ⌝ }
+{
+    if 4103 < store::row_size(memory::store_part(&mem[..]), at) {
+        owe_long_entry(mem, slot, at);
+        return;
+    }
+    let mut buf = [0u8; 4096];
+    owe_entry_with(mem, slot, at, &mut buf);
+}
+
+// Owes the client an INFO of an entry of any length.
+fn owe_long_entry(mem: &mut [u8], slot: usize, at: usize)
+    requires { ⌜ EntryAt (now mem) slot at ⌝ }
+    ensures { λ _. ⌜ Owing slot (entryInfo (now (mem .entry)) at)
+        (now (mem .entry)) (now (mem .exit)) ⌝ }
+{
+    let mut buf = [0u8; 65535];
+    owe_entry_with(mem, slot, at, &mut buf);
+}
+
+// Owes the client an INFO of an entry whose body the buffer has room for.
+fn owe_entry_with(mem: &mut [u8], slot: usize, at: usize, buf: &mut [u8])
+    requires { ⌜ (EntryAt (now mem) slot at)
+        × (length (entryBody (now mem) at) ≤ length (now buf)) ⌝ }
+    ensures { λ _. ⌜ Owing slot (entryInfo (now (mem .entry)) at)
+        (now (mem .entry)) (now (mem .exit)) ⌝ }
+{
+    let n = copy_body(&mem[..], at, buf);
+    memory::owe(mem, slot, Message::Info, &buf[..n]);
+}
+
+// Copies the body of an entry to the front of the buffer, which has room for it, and gives its
+// length.
+fn copy_body(mem: &[u8], at: usize, buf: &mut [u8]) -> usize
+    requires { ⌜ (StoredAt (now mem) at)
+        × (length (entryBody (now mem) at) ≤ length (now buf)) ⌝ }
+    ensures { λ n. ⌜ Copied (entryBody (now (mem .entry)) at) n (now (buf .exit)) ⌝ }
+{
+    let body = store::body_at(memory::store_part(mem), at);
+    octets::copy(buf, 0, body);
+    body.len()
+}
+
+// WRITE: if the value or presence of its key changes, the store is changed, and each client with a
+// matching pattern is owed one INFO.
+fn turn_write(mem: &mut [u8], p: &[u8])
+    requires { ⌜ Writing (now mem) (now p) ⌝ }
+    ensures { λ _. ⌜ Wrote (now (p .entry)) (now (mem .entry)) (now (mem .exit)) ⌝ }
+{
+    let key = octets::first_nul(p);
+    if is_unchanged(memory::store_part(&mem[..]), p, key) {
+        return;
+    }
+    if key < p.len() {
+        memory::write(mem, p, key);
+    } else {
+        memory::delete(mem, p);
+    }
+    notify_all(mem, p, key);
+}
+
+// Whether the WRITE of a payload, whose key has `key` bytes, leaves the store as it is: the entry
+// has this value already, or there is none to delete.
+fn is_unchanged(store: &[u8], p: &[u8], key: usize) -> bool
+    requires { ⌜ (storeFine (now store) ≡ true) × (key ≡ firstNul (now p)) ⌝ }
+    ensures { λ b. ⌜ b ≡ not (changedBy (now (p .entry)) key (storeOf (now (store .entry)))) ⌝ }
+{
+    let body = store::look_up(store, &p[..key]);
+    if key < p.len() {
+        return octets::equal(body, p);
+    }
+    body.len() == 0
+}
+
+// Owes each client with a pattern for the key one INFO of the body.
+fn notify_all(mem: &mut [u8], body: &[u8], key: usize)
+    requires { ⌜ (Sound (now mem)) × (key ≤ length (now body)) × (length (now body) ≤ 65535) ⌝ }
+    ensures { λ _. ⌜ NotifyingAll (now (body .entry)) key (now (mem .entry)) (now (mem .exit)) ⌝ }
+{
+    let n = memory::slot_count(&mem[..]);
+    let mut i = 0;
+    while i < n {
+        memory::notify(mem, i, body, key);
+        i += 1;
+    }
+}
+
+// Ends a step: each open client gets all that it is owed, or none of it and is shut with 102.
+pub fn settle_all(mem: &mut [u8])
+    requires { ⌜ Sound (now mem) ⌝ }
+    ensures { λ _. ⌜ Becomes (now (mem .entry)) (now (mem .exit))
+        (settledImage (imageOf (now (mem .entry)))) ⌝ }
+{
+    let n = memory::slot_count(&mem[..]);
+    let mut i = 0;
+    while i < n {
+        memory::settle(mem, i);
+        i += 1;
+    }
+}

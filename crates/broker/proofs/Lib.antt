@@ -1,0 +1,14 @@
+pub mod Serving
+pub mod Deciding
+pub mod OwnKind
+pub mod Rests
+pub mod Turned
+pub mod Decided
+pub mod Messages
+pub mod Fixing
+pub mod Fixed
+pub mod Cuts
+pub mod Recorded
+pub mod Running
+pub mod Actions
+pub mod Fed

@@ -1,0 +1,6 @@
+pub mod Start
+pub mod Histories
+pub mod Takes
+pub mod Commit
+pub mod Unbroken
+pub mod Guarantees

@@ -1,0 +1,96 @@
+/* infod3.h: the Uktervan message broker over lent memory, for C and for every language that calls C.
+ *
+ * The broker speaks infod3, version 0. It keeps everything it knows in one slice of bytes that the
+ * caller lends with each call, and nothing anywhere else: no globals, no heap, no system calls. A
+ * slice is a pointer and a length; NULL with length 0 is an empty slice. The memory may lie at any
+ * address. Two calls that run at the same time must not be lent the same memory. The slices of one
+ * call must not overlap. A feed needs up to 512 KiB of stack, every other call less than 1 KiB.
+ *
+ * Every function takes any argument and ends with one of these answers:
+ *
+ *     0  done
+ *     1  feed: more bytes are wanted; nothing is consumed
+ *     2  slot number N or more, or the slot is free (for open: only the first)
+ *     3  feed: the client is shut
+ *     4  open: the slot is open, or shut and not yet closed
+ *     5  a lent slice is too short: the memory of set up, or the out slice of take
+ *     6  take: the queue is empty
+ *     7  the memory breaks a rule of its layout (docs/layout.md)
+ *     8  a size of set up is out of range, or a form is neither 0 nor 1
+ *   100  unknown or malformed message
+ *   101  bad parameter
+ *   102  no room
+ *   103  bad command state
+ *
+ * Answers 1 to 8 leave every lent byte as it was, and the count beside them is 0. A message refused
+ * with 100 to 103 queues one ERROR to its client, shuts it, and drops its patterns and its recording;
+ * the store and all other clients stay as they were.
+ *
+ * Every function is proved to meet the contract that these comments put in words; the proofs are in
+ * the repository's crates.
+ */
+#ifndef INFOD3_H
+#define INFOD3_H
+
+#include <stdbool.h>
+#include <stddef.h>
+#include <stdint.h>
+
+#ifdef __cplusplus
+extern "C" {
+#endif
+
+/* What a call gives back: its answer, and the bytes that a feed consumed or a take wrote. */
+typedef struct {
+    uint32_t answer;
+    size_t count;
+} infod3_reply;
+
+/* What a match gives: its answer (0, 101 or 102), yes or no, and the steps that it took. */
+typedef struct {
+    uint32_t answer;
+    bool matched;
+    size_t steps;
+} infod3_match_result;
+
+/* The bytes of memory that a set up needs for n slots (1 to 32), a store room of s bytes (256 to
+ * 1,048,576), and for each slot a queue room of q (1,024 to 1,048,576) and a record room of r (256 to
+ * 262,144). 0 where one of them is out of range. */
+size_t infod3_memory_size(size_t n, size_t s, size_t q, size_t r);
+
+/* Sets a memory up, whatever it held: every slot is free and the store is empty. Answers, in this
+ * order: 8 for a size out of range, 5 for a memory shorter than infod3_memory_size says, else 0. What
+ * lies behind those bytes is never looked at and never altered, here and in every other call. */
+infod3_reply infod3_set_up(uint8_t *mem, size_t mem_len, size_t n, size_t s, size_t q, size_t r);
+
+/* Opens a client in a free slot: form 0 is packets (each feed is one message), form 1 a stream of
+ * frames or of text lines, which its first byte decides. Answers, in this order: 7, 2, 8, 4, else 0. */
+infod3_reply infod3_open(uint8_t *mem, size_t mem_len, size_t slot, size_t form);
+
+/* Feeds a client the front of its input. The first whole message is taken and no more; the count is
+ * its length, a text line's one ending byte included, for the answers 0 and 100 to 103. Answers, in
+ * this order: 7, 2, 3, 1, then what the message comes to. Feed again with what is left over, and with
+ * more input after a 1. The answer is 0 also where the message's own messages did not fit in the
+ * client's queue, so that it was shut: take then gives the ERROR. */
+infod3_reply infod3_feed(uint8_t *mem, size_t mem_len, size_t slot, const uint8_t *input,
+                         size_t input_len);
+
+/* Takes the first message of a client's queue, open or shut: it is written at the front of out and
+ * removed, and the count is its length. The rest of out stays as it was. Answers, in this order: 7, 2,
+ * 6, 5, else 0. No message is longer than q less 4 bytes. */
+infod3_reply infod3_take(uint8_t *mem, size_t mem_len, size_t slot, uint8_t *out, size_t out_len);
+
+/* Closes a client: its slot is free, and its patterns, its recording and its queue are gone. The store
+ * stays. Answers, in this order: 7, 2, else 0. */
+infod3_reply infod3_close(uint8_t *mem, size_t mem_len, size_t slot);
+
+/* Matches a pattern against a key. Answers, in this order: 101 for an invalid pattern, 102 for a
+ * pattern over 255 bytes or a key over 65,535, both with no match and 0 steps; else 0. */
+infod3_match_result infod3_match(const uint8_t *pattern, size_t pattern_len, const uint8_t *key,
+                                 size_t key_len);
+
+#ifdef __cplusplus
+}
+#endif
+
+#endif

@@ -1,0 +1,91 @@
+//! The table, on the terminal and as a page.
+
+use crate::cases::Case;
+use crate::{Cost, BATCHES, KEYS, ROUNDS};
+use std::fmt::Write;
+
+fn nanoseconds(cost: f64) -> String {
+    let digits = format!("{cost:.0}");
+    let mut text = String::new();
+    for (i, digit) in digits.chars().enumerate() {
+        if i > 0 && (digits.len() - i).is_multiple_of(3) {
+            text.push(',');
+        }
+        text.push(digit);
+    }
+    text
+}
+
+/// A row on the terminal.
+pub fn line(case: &Case, costs: &[Cost; 3]) -> String {
+    let mut line = format!("{:<38}", case.name);
+    for (keys, cost) in KEYS.iter().zip(costs) {
+        let (library, reference) = (nanoseconds(cost.library), nanoseconds(cost.reference));
+        let ratio = cost.ratio;
+        let _ = write!(
+            line,
+            " | {keys:>4} keys {library:>9} / {reference:>9} = {ratio:>7.2}"
+        );
+    }
+    line
+}
+
+/// The machine's processor and how many of them there are.
+fn machine() -> String {
+    let info = std::fs::read_to_string("/proc/cpuinfo").unwrap_or_default();
+    let model = info
+        .lines()
+        .find_map(|line| line.strip_prefix("model name"))
+        .map_or("an unknown processor", |rest| {
+            rest.trim_start_matches([' ', '\t', ':'])
+        });
+    let cores = std::thread::available_parallelism().map_or(1, |n| n.get());
+    format!("{model}, {cores} cores")
+}
+
+/// The page.
+pub fn page(rows: &[(Case, [Cost; 3])]) -> String {
+    let mut page = String::new();
+    let batches = ROUNDS * (BATCHES - 1);
+    let _ = writeln!(page, "# What the calls cost\n");
+    let _ = writeln!(
+        page,
+        "Nanoseconds of processor time per call of the library, and in brackets its cost as a \
+         multiple of the reference's (host/reference, which has ordinary\ncollections and no lent \
+         memory to check) in the same run. Each number is the median of {batches} batches; the \
+         batches of the two sides alternate.\n`./bench` measures again and writes this page.\n"
+    );
+    let _ = writeln!(page, "Machine: {}. One thread.\n", machine());
+    let _ = writeln!(
+        page,
+        "The state: 32 slots, of which 25 are open; 24 of the clients hold two patterns each that \
+         match no key. Keys have 15 bytes and values 8. \"Growth\" is the\nlibrary's cost with \
+         1,024 keys as a multiple of that with 10.\n"
+    );
+    let _ = writeln!(page, "| Call | 10 keys | 100 keys | 1,024 keys | Growth |");
+    let _ = writeln!(page, "|---|---|---|---|---|");
+    for (case, costs) in rows {
+        let cells = costs.map(|cost| {
+            let library = nanoseconds(cost.library);
+            format!("{library} ({:.1}×)", cost.ratio)
+        });
+        let growth = costs[2].library / costs[0].library;
+        let _ = writeln!(
+            page,
+            "| {} | {} | {growth:.1} |",
+            case.name,
+            cells.join(" | ")
+        );
+    }
+    let _ = writeln!(page, "\n## The rows\n");
+    for (case, _) in rows {
+        let _ = writeln!(page, "- **{}**: {}", case.name, case.text);
+    }
+    let _ = writeln!(
+        page,
+        "\nEvery call first tests the rules of the whole memory (answer 7), which walks the \
+         store's rows and the open clients: the first row is that test, and it is part of\nall \
+         others. So a call's own cost is its row less the first."
+    );
+    page
+}

@@ -1,0 +1,40 @@
+//! What the server itself says to a client: the HELP page, and why a client is turned away.
+//!
+//! Every line of the server itself starts with `#`, and no message of the protocol does: these
+//! start with VERSION, INFO, PONG or ERROR.
+
+/// The page that answers HELP in text mode.
+pub const PAGE: &str = "\
+# infod3 version 0, one command per line; words in any case, one letter will do\r
+# READ key             r   answers INFO \"key\" \"value\", or INFO \"key\" if absent\r
+# WRITE key [value]    w   sets the value; without one the key is deleted\r
+# SUB pattern          s   INFO for each matching key, now and whenever it changes\r
+# UNSUB pattern        u   takes the pattern back\r
+# BEGIN .. COMMIT      b c runs the commands between as one step\r
+# PING [text]          p   answers PONG\r
+# HELLO [0 [text]]         answers VERSION\r
+# Patterns: ? one byte; *c up to the next c; * at the end the rest; (a|b); \\c plainly c\r
+# A field with spaces is quoted, with \\ooo for a byte in octal: WRITE k \"a b\\012\"\r
+# After ERROR the connection is closed. This page's lines start with #.\r
+";
+
+/// The line for a client that finds no free slot.
+pub fn no_slot(slots: usize) -> String {
+    format!("# no free slot: {slots} clients are connected, try again later\r\n")
+}
+
+#[cfg(test)]
+mod tests {
+    use super::*;
+
+    #[test]
+    fn every_line_is_marked_and_ended() {
+        for text in [PAGE, &no_slot(32)] {
+            assert!(text.ends_with("\r\n"));
+            for line in text.split_terminator("\r\n") {
+                assert!(line.starts_with('#') && line.len() < 90 && line.is_ascii());
+                assert!(!line.contains(['\r', '\n']));
+            }
+        }
+    }
+}

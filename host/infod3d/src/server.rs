@@ -1,0 +1,391 @@
+//! The loop: waits for all sockets at once, reads, feeds, takes and writes, a bounded amount for
+//! each client and turn. How clients come and go is in `coming`, what is done for them in
+//! `feeding`.
+
+mod coming;
+mod feeding;
+
+use crate::client::Client;
+use crate::counters::Counters;
+use crate::cut::LONGEST;
+use crate::listener::{Listener, Place};
+use crate::log::Log;
+use crate::options::{Access, Options};
+use crate::socket::Socket;
+use crate::sys::{self, PollFd};
+use crate::view::View;
+use infod3::{Broker, Error};
+use std::fmt;
+use std::io::{self, Read, Write};
+use std::os::fd::AsRawFd;
+use std::os::unix::net::UnixStream;
+use std::time::{Duration, Instant};
+
+/// Why the server cannot start or go on.
+#[derive(Debug)]
+pub enum Failure {
+    /// A socket cannot be listened at.
+    Listen(String, io::Error),
+    /// The system refuses what the loop cannot do without.
+    System(io::Error),
+    /// The library gave an answer that its rules do not allow here.
+    Library(Error),
+}
+
+impl fmt::Display for Failure {
+    fn fmt(&self, f: &mut fmt::Formatter<'_>) -> fmt::Result {
+        match self {
+            Failure::Listen(place, error) => write!(f, "cannot listen on {place}: {error}"),
+            Failure::System(error) => write!(f, "the system refuses: {error}"),
+            Failure::Library(error) => write!(f, "the library fails: {error}"),
+        }
+    }
+}
+
+impl std::error::Error for Failure {}
+
+impl From<Error> for Failure {
+    fn from(error: Error) -> Failure {
+        Failure::Library(error)
+    }
+}
+
+/// Lets another thread, or a signal, ask something of the server.
+#[derive(Debug)]
+pub struct Handle {
+    pipe: UnixStream,
+}
+
+impl Handle {
+    /// Stops the server.
+    pub fn stop(&mut self) {
+        self.ask(sys::SIGTERM);
+    }
+
+    /// Writes the counters to the log.
+    pub fn write_counters(&mut self) {
+        self.ask(sys::SIGUSR1);
+    }
+
+    /// A pipe that is full holds requests enough; a server that has ended needs none.
+    fn ask(&mut self, number: i32) {
+        let _ = self.pipe.write(&[number as u8]);
+    }
+}
+
+/// What a descriptor in the list to wait for belongs to.
+enum Source {
+    Requests,
+    Listener(usize),
+    Client(usize),
+    Parting(usize),
+}
+
+/// The server.
+pub struct Server {
+    broker: Broker<Vec<u8>>,
+    view: Option<View>,
+    listeners: Vec<Listener>,
+    /// The clients by their slots.
+    clients: Vec<Option<Client>>,
+    /// Sockets of closed clients, whose last bytes are dropped until then.
+    partings: Vec<(Socket, Instant)>,
+    counters: Counters,
+    log: Log,
+    requests: UnixStream,
+    asking: UnixStream,
+    started: Instant,
+    stats: Option<(Duration, Instant)>,
+    patience: Duration,
+    /// The slot that is fed first in the next turn.
+    first: usize,
+    read_room: Vec<u8>,
+    take_room: Vec<u8>,
+}
+
+impl Server {
+    /// Sets the broker up and listens everywhere.
+    pub fn new(options: &Options, log: Log) -> Result<Server, Failure> {
+        let mut broker = Broker::new(options.sizes)?;
+        let view = View::of(&mut broker)?;
+        let listeners = listeners(options)?;
+        let (requests, asking) = UnixStream::pair().map_err(Failure::System)?;
+        for end in [&requests, &asking] {
+            end.set_nonblocking(true).map_err(Failure::System)?;
+        }
+        let now = Instant::now();
+        let mut server = Server {
+            broker,
+            view,
+            listeners,
+            clients: (0..options.sizes.slots()).map(|_| None).collect(),
+            partings: Vec::new(),
+            counters: Counters::default(),
+            log,
+            requests,
+            asking,
+            started: now,
+            stats: options.stats.map(|period| (period, now + period)),
+            patience: options.patience,
+            first: 0,
+            read_room: vec![0; LONGEST],
+            take_room: vec![0; options.sizes.queue()],
+        };
+        server.announce(options);
+        Ok(server)
+    }
+
+    fn announce(&mut self, options: &Options) {
+        let (sizes, pid) = (options.sizes, std::process::id());
+        self.log.notice(format_args!(
+            "start pid={pid} slots={} store={} queue={} record={}",
+            sizes.slots(),
+            sizes.store(),
+            sizes.queue(),
+            sizes.recording()
+        ));
+        for listener in &self.listeners {
+            let access = match listener.access {
+                Access::Full => "",
+                Access::ReadOnly => " read-only",
+            };
+            self.log
+                .notice(format_args!("listen {}{access}", listener.place));
+        }
+    }
+
+    /// Where the server listens, with the ports that the system chose.
+    pub fn places(&self) -> Vec<Place> {
+        self.listeners.iter().map(|l| l.place.clone()).collect()
+    }
+
+    /// A handle for another thread.
+    pub fn handle(&self) -> io::Result<Handle> {
+        let pipe = self.asking.try_clone()?;
+        Ok(Handle { pipe })
+    }
+
+    /// Lets SIGINT and SIGTERM stop this server and SIGUSR1 write its counters. A process has one
+    /// server with signals.
+    pub fn take_signals(&self) -> io::Result<()> {
+        let numbers = [sys::SIGINT, sys::SIGTERM, sys::SIGUSR1];
+        sys::signals_to(self.asking.as_raw_fd(), &numbers)
+    }
+
+    /// Serves until it is stopped, and gives the counters.
+    pub fn run(mut self) -> Result<Counters, Failure> {
+        while self.turn()? {}
+        self.stop();
+        Ok(self.counters)
+    }
+
+    /// One turn; false when the server is to stop.
+    fn turn(&mut self) -> Result<bool, Failure> {
+        let now = Instant::now();
+        let (mut fds, sources) = self.poll_list(now);
+        let timeout = self.timeout(now);
+        sys::wait(&mut fds, timeout).map_err(Failure::System)?;
+        let now = Instant::now();
+        let mut arrivals = Vec::new();
+        for (fd, source) in fds.iter().zip(&sources) {
+            match *source {
+                _ if fd.revents == 0 => {}
+                Source::Requests if !self.answer_requests() => return Ok(false),
+                Source::Requests => {}
+                Source::Listener(index) => arrivals.push(index),
+                Source::Client(slot) => self.serve(slot, fd, now)?,
+                Source::Parting(index) => self.drop_input(index, now),
+            }
+        }
+        self.feed_all(now)?;
+        self.write_all(now)?;
+        self.close_done(now)?;
+        self.partings.retain(|(_, until)| *until > now);
+        // Those who come find the slots of those who have just gone.
+        for index in arrivals {
+            self.accept(index, now)?;
+        }
+        self.write_stats(now);
+        Ok(true)
+    }
+
+    /// The descriptors to wait for. Those of clients are there even without events, since errors
+    /// and hang-ups are found in any case.
+    fn poll_list(&mut self, now: Instant) -> (Vec<PollFd>, Vec<Source>) {
+        let mut fds = vec![PollFd::new(self.requests.as_raw_fd(), sys::POLLIN)];
+        let mut sources = vec![Source::Requests];
+        for (index, listener) in self.listeners.iter_mut().enumerate() {
+            listener.paused = listener.paused.filter(|until| *until > now);
+            if listener.paused.is_none() {
+                fds.push(PollFd::new(listener.fd(), sys::POLLIN));
+                sources.push(Source::Listener(index));
+            }
+        }
+        for (slot, client) in self.clients.iter().enumerate() {
+            if let Some(client) = client {
+                fds.push(PollFd::new(client.socket.fd(), client.events()));
+                sources.push(Source::Client(slot));
+            }
+        }
+        for (index, (socket, _)) in self.partings.iter().enumerate() {
+            fds.push(PollFd::new(socket.fd(), sys::POLLIN));
+            sources.push(Source::Parting(index));
+        }
+        (fds, sources)
+    }
+
+    /// How long to wait at most, in milliseconds: not at all while a whole message waits, else
+    /// until the next moment at which something is due.
+    fn timeout(&mut self, now: Instant) -> i32 {
+        if self.clients.iter_mut().flatten().any(Client::has_work) {
+            return 0;
+        }
+        let patience = self.patience;
+        let waiting = self.clients.iter().flatten().filter(|c| c.is_waiting());
+        let moments = waiting
+            .map(|client| client.progress + patience)
+            .chain(self.partings.iter().map(|(_, until)| *until))
+            .chain(self.listeners.iter().filter_map(|l| l.paused))
+            .chain(self.stats.map(|(_, next)| next));
+        match moments.min() {
+            None => -1,
+            Some(moment) => {
+                let left = moment.saturating_duration_since(now).as_millis() + 1;
+                i32::try_from(left).unwrap_or(i32::MAX)
+            }
+        }
+    }
+
+    /// Reads what was asked of the server; false where it is to stop.
+    fn answer_requests(&mut self) -> bool {
+        let mut bytes = [0; 64];
+        let read = self.requests.read(&mut bytes).unwrap_or(0);
+        for &byte in &bytes[..read] {
+            match i32::from(byte) {
+                sys::SIGUSR1 => self.write_counters(),
+                number => {
+                    self.log.notice(format_args!("stop signal={number}"));
+                    return false;
+                }
+            }
+        }
+        true
+    }
+
+    fn write_counters(&mut self) {
+        let clients = self.clients.iter().flatten().count();
+        let keys = self.view.and_then(|view| view.keys(self.broker.memory()));
+        let keys = keys.map_or("unknown".to_owned(), |keys| keys.to_string());
+        let seconds = self.started.elapsed().as_secs();
+        self.log.notice(format_args!(
+            "counters seconds={seconds} clients={clients} keys={keys} {}",
+            self.counters
+        ));
+    }
+
+    fn write_stats(&mut self, now: Instant) {
+        if let Some((period, next)) = self.stats {
+            if next <= now {
+                self.stats = Some((period, now + period));
+                self.write_counters();
+            }
+        }
+    }
+
+    /// Reads and writes what a client's socket is ready for.
+    fn serve(&mut self, slot: usize, fd: &PollFd, now: Instant) -> Result<(), Failure> {
+        let Some(client) = &mut self.clients[slot] else {
+            return Ok(());
+        };
+        if fd.found(sys::POLLHUP | sys::POLLERR | sys::POLLNVAL) {
+            client.lose(None);
+        }
+        let failed = sys::POLLHUP | sys::POLLERR | sys::POLLNVAL;
+        if client.leaving.is_none() && fd.found(sys::POLLIN | failed) {
+            self.counters.bytes_in += client.read(&mut self.read_room, now) as u64;
+        }
+        if fd.found(sys::POLLOUT) {
+            self.counters.bytes_out += client.write(now) as u64;
+        }
+        if client.queued {
+            self.collect(slot, now)?;
+        }
+        Ok(())
+    }
+}
+
+/// All listeners of the options.
+fn listeners(options: &Options) -> Result<Vec<Listener>, Failure> {
+    let mut made = Vec::new();
+    let rights = &options.rights;
+    for &address in &options.tcp {
+        let listener = Listener::tcp(address, options.tcp_access);
+        made.push(listener.map_err(|e| Failure::Listen(Place::Tcp(address).to_string(), e))?);
+    }
+    for path in &options.unix {
+        let listener = Listener::unix(path, options.unix_access, rights);
+        let place = Place::Unix(path.clone());
+        made.push(listener.map_err(|e| Failure::Listen(place.to_string(), e))?);
+    }
+    for path in &options.packets {
+        let listener = Listener::packets(path, options.packets_access, rights);
+        let place = Place::Packets(path.clone());
+        made.push(listener.map_err(|e| Failure::Listen(place.to_string(), e))?);
+    }
+    Ok(made)
+}
+
+#[cfg(test)]
+mod tests {
+    use super::*;
+    use infod3::Sizes;
+
+    /// A memory of another layout than the known one has no view; the calls alone must do.
+    #[test]
+    fn the_calls_alone_are_enough() {
+        let path = std::env::temp_dir().join(format!("infod3d-view-{}", std::process::id()));
+        let options = Options {
+            unix: vec![path.clone()],
+            sizes: Sizes::new(3, 4096, 4096, 256).unwrap(),
+            ..Options::default()
+        };
+        let log = Log::new(Box::new(io::sink()), true);
+        let mut server = Server::new(&options, log).unwrap();
+        server.view = None;
+        let mut handle = server.handle().unwrap();
+        let running = std::thread::spawn(move || server.run().unwrap());
+        let connect = || {
+            let stream = UnixStream::connect(&path).unwrap();
+            stream
+                .set_read_timeout(Some(Duration::from_secs(30)))
+                .unwrap();
+            stream
+        };
+        let (mut watcher, mut writer) = (connect(), connect());
+        let mut answer = [0; 15];
+        watcher.write_all(b"SUB *\nPING abcdef\n").unwrap();
+        watcher.read_exact(&mut answer).unwrap();
+        assert_eq!(&answer, b"PONG \"abcdef\"\r\n");
+        writer.write_all(b"WRITE ab cd\nNONSENSE\n").unwrap();
+        let mut rest = Vec::new();
+        writer.read_to_end(&mut rest).unwrap();
+        assert_eq!(rest, b"ERROR 100 \"unknown message\"\r\n");
+        watcher.read_exact(&mut answer[..11]).unwrap();
+        assert_eq!(&answer[..11], b"INFO \"ab\" \"");
+        // Its queue overflows: the one commit owes it more than fits.
+        let value = "x".repeat(230);
+        watcher.write_all(b"BEGIN\n").unwrap();
+        watcher
+            .write_all(format!("WRITE a {value}\n").as_bytes())
+            .unwrap();
+        watcher.write_all(b"COMMIT\nBEGIN\n").unwrap();
+        watcher.write_all("READ a\n".repeat(30).as_bytes()).unwrap();
+        watcher.write_all(b"COMMIT\n").unwrap();
+        let mut rest = Vec::new();
+        watcher.read_to_end(&mut rest).unwrap();
+        assert!(rest.ends_with(b"ERROR 102 \"no room\"\r\n"));
+        handle.stop();
+        let counters = running.join().unwrap();
+        assert_eq!((counters.overflows, counters.shut()), (1, 2));
+    }
+}

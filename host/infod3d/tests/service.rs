@@ -1,0 +1,239 @@
+//! What the server does itself: HELP, read-only listeners, counters, and that a commit stays
+//! together on its way through the sockets.
+
+mod common;
+
+use common::{frame, sized, start, Client, Running};
+use infod3d::help::PAGE;
+use infod3d::options::Access;
+use std::time::Duration;
+
+/// Reads the HELP page line by line.
+fn expect_page(client: &mut Client) {
+    for line in PAGE.split_terminator("\r\n") {
+        assert_eq!(client.line(), line);
+    }
+}
+
+#[test]
+fn help_is_answered_in_order() {
+    let server = start(|_| {});
+    let mut client = server.over_tcp();
+    client.send("PING a\n  help me\nPING b\rHeLp\r\nPING c\n");
+    assert_eq!(client.line(), "PONG \"a\"");
+    expect_page(&mut client);
+    assert_eq!(client.line(), "PONG \"b\"");
+    expect_page(&mut client);
+    assert_eq!(client.line(), "PONG \"c\"");
+
+    // HELP is no command of the protocol, so a transaction goes on around it.
+    client.send("BEGIN\nPING d\nHELP\nCOMMIT\n");
+    expect_page(&mut client);
+    assert_eq!(client.line(), "PONG \"d\"");
+
+    // As a first message it fixes the kind as text: what follows is no frame.
+    let mut client = server.over_unix();
+    client.send("HELP\n\x07\0\x01x\n");
+    expect_page(&mut client);
+    assert_eq!(client.line(), "ERROR 100 \"unknown message\"");
+    assert_eq!(client.rest(), b"");
+
+    // In binary it is an unknown message, and not a page.
+    let packets = server.over_packets();
+    packets.send(b"HELP");
+    assert_eq!(packets.packet()[..2], [0x83, 100]);
+    assert_eq!(server.stop().help, 4);
+}
+
+#[test]
+fn help_waits_for_a_long_queue() {
+    // Far more is queued before the page than the server's buffer and the socket hold.
+    let server = start(|_| {});
+    let (mut client, mut writer) = (server.over_unix(), server.over_unix());
+    let filler = "x".repeat(60_000);
+    for i in 0..10 {
+        writer.send(format!("WRITE k{i} {filler}\n"));
+    }
+    writer.synchronise();
+    client.send("SUB *\nHELP\nPING end\n");
+    std::thread::sleep(Duration::from_millis(50));
+    writer.send("WRITE later 1\n");
+    writer.synchronise();
+    for i in 0..10 {
+        assert_eq!(client.line(), format!("INFO \"k{i}\" \"{filler}\""));
+    }
+    assert_eq!(client.line(), "INFO \"later\" \"1\"");
+    expect_page(&mut client);
+    assert_eq!(client.line(), "PONG \"end\"");
+}
+
+fn read_only() -> Running {
+    start(|options| {
+        options.tcp_access = Access::ReadOnly;
+        options.packets_access = Access::ReadOnly;
+    })
+}
+
+#[test]
+fn a_read_only_listener_refuses_every_write() {
+    let server = read_only();
+    let mut writer = server.over_unix();
+    writer.send("WRITE k v\n");
+    writer.synchronise();
+    let streams: [Vec<u8>; 6] = [
+        b"WRITE k x\n".to_vec(),
+        b"  w k x\n".to_vec(),
+        b"wRITE k\n".to_vec(),
+        b"BEGIN\nWRITE k x\nCOMMIT\n".to_vec(),
+        frame(4, b"k\0x"),
+        [frame(5, b""), frame(4, b"k"), frame(6, b"")].concat(),
+    ];
+    for stream in &streams {
+        let mut client = server.over_tcp();
+        client.send(stream);
+        assert_eq!(client.rest(), b"", "closed without a word");
+    }
+    let packets = server.over_packets();
+    packets.send(b"\x04k\0x");
+    assert_eq!(packets.packet(), b"");
+    assert_eq!(server.log.count("WRITE refused"), 7);
+
+    // What it asked before is answered, and the listener is good for reading.
+    let mut client = server.over_tcp();
+    client.send("SUB k\nREAD k\nPING WRITE\nWRITE k x\n");
+    let answer = String::from_utf8(client.rest()).expect("UTF-8");
+    let info = "INFO \"k\" \"v\"\r\n";
+    assert_eq!(answer, format!("{info}{info}PONG \"WRITE\"\r\n"));
+    let mut reader = server.over_tcp();
+    reader.send("SUB *\n");
+    assert_eq!(reader.line(), "INFO \"k\" \"v\"");
+    writer.send("WRITE k w\n");
+    assert_eq!(reader.line(), "INFO \"k\" \"w\"");
+    let counters = server.stop();
+    assert_eq!((counters.read_only, counters.shut()), (8, 0));
+}
+
+#[test]
+fn the_messages_of_a_commit_stay_together() {
+    let server = start(|_| {});
+    let mut watcher = server.over_tcp();
+    watcher.send("SUB site.*\n");
+    watcher.synchronise();
+    let writers: Vec<_> = (0..4)
+        .map(|who| {
+            let mut client = server.over_unix();
+            std::thread::spawn(move || {
+                for round in 0..50 {
+                    let writes: String = (0..5)
+                        .map(|key| format!("WRITE site.{who}.{key} {round}\n"))
+                        .collect();
+                    // Plain writes of the others come in between, unless the commit is one step.
+                    client.send(format!(
+                        "BEGIN\n{writes}COMMIT\nWRITE site.{who}.plain {round}\n"
+                    ));
+                }
+                client.synchronise();
+            })
+        })
+        .collect();
+    let mut plain = 0;
+    let mut commits = 0;
+    while plain + commits < 400 {
+        let line = watcher.line();
+        let field = |line: &str| line.split('"').nth(1).expect("a key").to_owned();
+        let key = field(&line);
+        if key.ends_with(".plain") {
+            plain += 1;
+            continue;
+        }
+        let stem = key
+            .strip_suffix(".0")
+            .expect("a commit begins with its first key")
+            .to_owned();
+        let value = line.rsplit(' ').next().expect("a value").to_owned();
+        for rest in 1..5 {
+            let next = watcher.line();
+            assert_eq!(next, format!("INFO \"{stem}.{rest}\" {value}"));
+        }
+        commits += 1;
+    }
+    writers
+        .into_iter()
+        .for_each(|writer| writer.join().expect("a writer"));
+    assert_eq!((plain, commits), (200, 200));
+}
+
+#[test]
+fn counters_are_written_when_asked_for() {
+    let mut server = sized(4, 4096, 4096, 256);
+    let mut client = server.over_tcp();
+    client.send("WRITE a 1\nWRITE b 2\nNONSENSE\n");
+    assert_eq!(client.line(), "ERROR 100 \"unknown message\"");
+    assert_eq!(client.rest(), b"");
+    let mut other = server.over_unix();
+    other.send("SUB **\n");
+    assert_eq!(other.line(), "ERROR 101 \"bad parameter\"");
+    let mut third = server.over_unix();
+    third.synchronise();
+    server.write_counters();
+    server.log.wait_for("counters ");
+    let log = server.log.text();
+    let line = log
+        .lines()
+        .find(|line| line.contains(" counters "))
+        .expect("a line");
+    for field in [
+        "clients=1 ",
+        "keys=2 ",
+        "clients_ever=3 ",
+        "messages_in=5 ",
+        "messages_out=3 ",
+        "shut=2 ",
+        "refused_100=1",
+        "refused_101=1",
+        "refused_102=0",
+    ] {
+        assert!(line.contains(field), "{field} in {line}");
+    }
+}
+
+#[test]
+fn every_event_is_a_line() {
+    let server = start(|_| {});
+    let mut client = server.over_unix();
+    client.send("HELP\n");
+    expect_page(&mut client);
+    drop(client);
+    server.log.wait_for("ended by the client");
+    let mut client = server.over_tcp();
+    client.send("BEGIN\nBEGIN\n");
+    assert_eq!(client.line(), "ERROR 103 \"bad state\"");
+    server.log.wait_for("refused 103");
+    let log = server.log.text();
+    let pid = std::process::id();
+    for event in [
+        "start pid=",
+        "listen tcp 127.0.0.1:",
+        &format!("open slot=0 unix pid={pid} uid="),
+        "help slot=0",
+        "open slot=0 tcp 127.0.0.1:",
+        "refused slot=0 103 bad state",
+    ] {
+        assert_eq!(log.matches(event).count(), 1, "{event} in\n{log}");
+    }
+    for line in log.lines() {
+        assert!(
+            line.as_bytes()[10] == b'T' && line.as_bytes()[23] == b'Z',
+            "{line}"
+        );
+    }
+}
+
+#[test]
+fn a_quiet_log_has_no_clients() {
+    let server = start(|options| options.quiet = true);
+    server.over_unix().synchronise();
+    let log = server.log.clone();
+    assert_eq!(server.stop().clients_ever, 1);
+    assert!(!log.text().contains(" slot=") && log.text().contains("counters "));
+}

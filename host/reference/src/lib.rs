@@ -1,6 +1,6 @@
 //! The simple server of document 01 ("the paper"), in safe Rust with ordinary collections.
 //!
-//! It is written from the paper and from infod3 alone and shares no code with the broker, so
+//! It is written from the papers and docs/DECISIONS.md and shares no code with the broker, so
 //! that the two can be compared call by call. It has no lent memory: answer 7, and answer 5 of
 //! set up, are the caller's. There is one module for each section of the paper: `patterns`,
 //! `reading` ("From bytes to one command"), `writing` ("Messages written"), `store` and

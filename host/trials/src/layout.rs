@@ -1,4 +1,4 @@
-//! The memory's layout, read from docs/layout.md alone: its rules ([`broken`]), where each number
+//! The memory's layout, read from docs/layout.md: its rules ([`broken`]), where each number
 //! of it stands ([`fields`]), and what its bytes mean ([`image`]).
 
 use std::fmt;

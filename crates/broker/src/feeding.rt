@@ -1,11 +1,13 @@
 // A whole message of an open client: it is read, and its command is recorded, run as one step, or
 // refused.
 ghost use mathlib.Core.Path.{_≡_};
-ghost use mathlib.Core.Bool.{true};
+ghost use mathlib.Core.Bool.{true, false};
 ghost use lib.ListN.{length};
+ghost use Rattle.octets.specs.Items.{isSome};
 ghost use Rattle.command.specs.Meaning.{meant};
 ghost use Rattle.wire.specs.Post.{roomIn};
 ghost use Rattle.recording.specs.Command.{actionOf, commandFine};
+ghost use Rattle.memory.specs.Image.{clientAt, imageOf};
 ghost use Rattle.broker.specs.FeedParts.{Feeding, HasBuffer, Speaking, Says, Obeys};
 ghost use Rattle.broker.specs.FeedParts.{messageDecision, readingDecision};
 ghost use Rattle.broker.specs.FeedParts.{refusalDecision, actionDecision};
@@ -130,6 +132,9 @@ fn feed_action(mem: &mut [u8], slot: usize, id: u8, p: &[u8], n: usize) -> Reply
     if memory::is_recording(&mem[..], slot) {
         return transaction::feed_record(mem, slot, id, p, n);
     }
+    if id == 4 {
+        return feed_write(mem, slot, p, n);
+    }
     if is_refused(&mem[..], slot, id, p) {
         return refuse(mem, slot, Refusal::Room, n);
     }
@@ -138,17 +143,33 @@ fn feed_action(mem: &mut [u8], slot: usize, id: u8, p: &[u8], n: usize) -> Reply
     done(n)
 }
 
-// Whether a command is refused with 102 at its turn: a WRITE by the store after it, a SUB by a 17th
-// pattern.
+// Whether a command that is no WRITE is refused with 102 at its turn: a SUB by a 17th pattern.
 fn is_refused(mem: &[u8], slot: usize, id: u8, p: &[u8]) -> bool
-    requires { ⌜ (Speaking (now mem) slot) × (commandFine id (length (now p)) ≡ true) ⌝ }
+    requires { ⌜ (Speaking (now mem) slot) × (id ≡ 4 → ⊥) ⌝ }
     ensures { λ b. ⌜ b ≡ refusedIn (now (mem .entry)) slot (actionOf id (now (p .entry))) ⌝ }
 {
-    if id == 4 {
-        return commit::write_refused(memory::store_part(mem), p);
-    }
     if id == 1 {
         return commit::sub_refused(memory::subscriptions_part(mem, slot), p);
     }
     false
+}
+
+// Obeys a WRITE that is not recorded, in a message of n bytes. Its key is looked up once: the size
+// of the key's row tells whether the store has room, and the row is changed in its place.
+fn feed_write(mem: &mut [u8], slot: usize, p: &[u8], n: usize) -> Reply
+    requires { ⌜ (Speaking (now mem) slot) × (commandFine 4 (length (now p)) ≡ true)
+        × (isSome (clientAt slot (imageOf (now mem)) .recording) ≡ false) ⌝ }
+    ensures { λ r. ⌜ Obeys (actionDecision (now (mem .entry)) slot n 4 (now (p .entry)))
+        (now (mem .entry)) (r .answer) (r .count) (now (mem .exit)) ⌝ }
+{
+    let key = octets::first_nul(p);
+    let place = store::find(memory::store_part(&mem[..]), &p[..key]);
+    let at = place.at;
+    let old = place.len;
+    if commit::write_refused(memory::store_part(&mem[..]), p, key, old) {
+        return refuse(mem, slot, Refusal::Room, n);
+    }
+    step::write_at(mem, p, key, at, old);
+    step::settle_all(mem);
+    done(n)
 }

@@ -4,10 +4,10 @@
 use Prim.Native.Nat.{ℕ, _≤_}
 use mathlib.Core.Path.{_≡_}
 use mathlib.Core.Bool.{Bool, true, false}
-use lib.ListN.{length}
-use Rattle.octets.specs.Octets.{Bytes}
+use lib.ListN.{length, take}
+use Rattle.octets.specs.Octets.{Bytes, firstNul}
 use Rattle.protocol.specs.Terms.{Action, sub}
-use Rattle.server.specs.Store.{Store}
+use Rattle.server.specs.Store.{Store, lookup}
 use Rattle.server.specs.Patterns.{Patterns}
 use Rattle.server.specs.Step.{storeAfter, patternsAfter, refuses, storeAfterAll}
 use Rattle.recording.specs.Command.{writeFrom, actionOf, commandFine}
@@ -15,6 +15,7 @@ use Rattle.recording.specs.Region.{recordingFine}
 use Rattle.recording.specs.Turn.{earlier}
 use Rattle.recording.specs.Contracts.{RowAt, Until}
 use Rattle.store.specs.Region.{roomOf, storeFine, storeOf}
+use Rattle.store.specs.Operation.{charge}
 use Rattle.subscriptions.specs.Region.{patternsOf, subscriptionsFine}
 use Rattle.commit.specs.declared.Tally.{Tally}
 use Rattle.commit.specs.Tally.{TallyOf}
@@ -36,10 +37,12 @@ pub record Place (st r : Bytes) (at : ℕ) : Type 0 where
   pub store-fine : storeFine st ≡ true
   pub until : Until r at
 
--- a store and a payload that a WRITE can have
-pub record Writing (st p : Bytes) : Type 0 where
+-- a store and a payload that a WRITE can have; its key has n bytes, and the key's row `old`, 0 where it is absent
+pub record Writing (st p : Bytes) (n old : ℕ) : Type 0 where
   pub store-fine : storeFine st ≡ true
   pub short : length p ≤ 65535
+  pub key : n ≡ firstNul p
+  pub row : old ≡ charge (take n p) (lookup (take n p) (storeOf st))
 
 -- such a payload at an offset of a recording, with the tally of the store there
 pub record WriteTurn (st r : Bytes) (at : ℕ) (p : Bytes) (t : Tally) : Type 0 where

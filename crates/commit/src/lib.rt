@@ -137,18 +137,15 @@ pub fn refuses_any<'a>(store: &'a [u8], recording: &'a [u8], patterns: &mut [u8]
     false
 }
 
-// Whether a WRITE of the payload is refused: the store after it would break a limit.
-pub fn write_refused(store: &[u8], payload: &[u8]) -> bool
-    requires { ⌜ Writing (now store) (now payload) ⌝ }
+// Whether a WRITE of the payload is refused: the store after it would break a limit. The payload's
+// key has `key` bytes, and its row in the store `old`, 0 where it is absent. A deletion is never
+// refused.
+pub fn write_refused(store: &[u8], payload: &[u8], key: usize, old: usize) -> bool
+    requires { ⌜ Writing (now store) (now payload) key old ⌝ }
     ensures { λ b. ⌜ WriteRefused (now (store .entry)) (now (payload .entry)) b ⌝ }
 {
-    let key = octets::first_nul(payload);
-    let body = store::look_up(store, &payload[..key]);
-    let t = Tally {
-        refused: false,
-        used: store::used(store),
-        count: store::count(store),
-    };
-    let r = exchanged(store.len() - 8, t, key, body.len(), payload.len());
-    r.refused
+    if payload.len() <= key {
+        return false;
+    }
+    !store::fits(store, old, 7 + payload.len())
 }

@@ -12,12 +12,14 @@ use Rattle.octets.specs.Items.{isSome}
 use Rattle.protocol.specs.Terms.{Message}
 use Rattle.server.specs.State.{Sizes, inRange, recordingFits}
 use Rattle.server.specs.Patterns.{addPattern, removePattern}
+use Rattle.server.specs.Store.{remove}
+use Rattle.store.specs.Operation.{Found}
 use Rattle.queue.specs.Meaning.{kept}
 use Rattle.queue.specs.Rows.{firstLength, firstMessage}
 use Rattle.recording.specs.Command.{actionOf, commandFine}
 use Rattle.slot.specs.Image.{ClientImage, taken, owed, notified, commandsOf, withPatterns, onClient}
-use Rattle.memory.specs.Layout.{mark, sizesOf, slotsStart, slotStart, memorySize}
-use Rattle.memory.specs.Image.{slotIn, isUsed, isOpen, clientAt, onSlot, imageOf, emptyImage}
+use Rattle.memory.specs.Layout.{mark, sizesOf, storePart, slotsStart, slotStart, memorySize}
+use Rattle.memory.specs.Image.{slotIn, isUsed, isOpen, clientAt, withStore, onSlot, imageOf, emptyImage}
 use Rattle.memory.specs.Rules.{Headed, Sound, memoryFine, KeptBehind, Becomes}
 
 -- a memory with a header, and the number of a slot or N
@@ -53,6 +55,13 @@ pub record SetUp (z : Sizes) (m m′ : Bytes) : Type 0 where
   pub fine : memoryFine m′ ≡ true
   pub means : imageOf m′ ≡ emptyImage z
   pub behind : KeptBehind z m m′
+
+-- ---- the store
+
+-- the row at a place is taken out of the store: the key that had it is gone
+abbrev pub Deleting : ℕ → ℕ → Bytes → Bytes → Type 0
+Deleting at old m m′ = (k : Bytes) → Found (storePart (sizesOf m) m) k at old
+    → Becomes m m′ (withStore (remove k (imageOf m .store)) (imageOf m))
 
 -- ---- slots
 

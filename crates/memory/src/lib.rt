@@ -13,8 +13,8 @@ mod setting;
 mod slots;
 
 pub use check::is_fine;
-pub use entries::delete;
-pub use entries::write;
+pub use entries::delete_at;
+pub use entries::write_at;
 pub use header::Sizes;
 pub use header::in_range;
 pub use header::queue_room;

@@ -1,16 +1,17 @@
 -- WRITE's turn: the key and the value of its payload, whether it changes the store, and what it leaves.
 use mathlib.Core.Path.{_≡_, refl, sym, ap, _∙_}
-use mathlib.Core.List.{_∷_, _++_, append-nil}
+use mathlib.Core.List.{[], _∷_, _++_, append-nil}
 use mathlib.Core.Bool.{true, false, not, true≢false, Bool·not-not}
 use mathlib.Core.Option.{Option, some, none}
-use Prim.Native.Nat.{ℕ, _+_, _≤_, _<_}
+use Prim.Native.Nat.{ℕ, zero, suc, _+_, _≤_, _<_}
 use native.Mathlib.Nat.{le-refl}
 use native.Mathlib.Numerals.{add-one}
 use native.Mathlib.Omega.{arith}
-use lib.Dec.{eqb, ltb}
+use lib.Dec.{eqb, leb, ltb}
 use lib.ListN.{length, take, drop, getD, length-append, drop-of-length-le}
 use lib.Seq.{drop-append-add, drop-cons, getD-append-seam, length-take-le, take-all}
-use borrow.Author.Tests.{lt-ltb, le-ltb, not-true, eqb-true, eqb-false}
+use borrow.Author.Tests.{lt-ltb, le-ltb, ltb-true, ltb-false, le-leb, leb-true, leb-false}
+use borrow.Author.Tests.{not-true, eqb-true, eqb-false, ne-eqb}
 use Rattle.octets.specs.Octets.{Bytes, hasNul, firstNul}
 use Rattle.octets.specs.Order.{same}
 use Rattle.octets.proofs.Orders.{same-eq, eq-same, ne-same}
@@ -25,9 +26,9 @@ use Rattle.recording.specs.Turn.{valueIn}
 use Rattle.recording.proofs.Commands.{payload-writeFrom, readsBack-actionOf}
 use Rattle.infod3.specs.Infod3.{infod3}
 use Rattle.store.specs.Region.{roomOf, storeFine, storeOf}
-use Rattle.store.specs.Operation.{lower, body, putPayload, Writable}
+use Rattle.store.specs.Operation.{lower, charge, body, putPayload, Writable}
 use Rattle.store.proofs.Split.{own, storeAfterWrite-split}
-use Rattle.store.proofs.Change.{parts}
+use Rattle.store.proofs.Change.{parts, found-none}
 use Rattle.store.proofs.Laws.{changes-some, changes-none}
 use Rattle.slot.specs.Image.{notified, onClient}
 use Rattle.memory.specs.Layout.{sizesOf, storePart}
@@ -36,7 +37,7 @@ use Rattle.memory.specs.Rules.{Becomes}
 use Rattle.service.proofs.Steps.{either}
 use Rattle.service.proofs.Ends.{becomes-same, becomes-as, becomes-then}
 use Rattle.service.proofs.Actions.{afterTurn-write, afterTurn-unchanged}
-use Rattle.step.specs.TurnParts.{Writing, Wrote, changedBy, NotifyingAll}
+use Rattle.step.specs.TurnParts.{Writing, KeyAt, Wrote, changedBy, NotifyingAll}
 
 -- ---- the payload
 
@@ -91,6 +92,12 @@ module _ (p : Bytes) where
 
 -- ---- whether it changes the store
 
+-- an entry's body is longer than its key
+body-longer : (k : Bytes) (o : Option Bytes) → 0 < charge k o → length k < length (body k o)
+unfolding charge body
+body-longer k none h = absurd (omega arith)
+body-longer k (some v) h = rw length-append (omega arith)
+
 same-comm : (s t : Bytes) → same s t ≡ same t s
 same-comm s t =
     either (same s t)
@@ -112,7 +119,7 @@ module _ (p : Bytes) (n : ℕ) (en : n ≡ firstNul p) (es : Store) where
     found : body (keyIn p) (lookup (keyIn p) es) ≡ b
     found = rw en at (sym eb)
 
-    pub unchanged-some : n < length p → same b p ≡ not (changedBy p n es)
+    unchanged-some : n < length p → same b p ≡ not (changedBy p n es)
     unchanged-some l =
         let h : firstNul p < length p = omega (arith, en) in
         let c : changedBy p n es ≡ not (same p b) =
@@ -122,7 +129,7 @@ module _ (p : Bytes) (n : ℕ) (en : n ≡ firstNul p) (es : Store) where
         ∙ rw (body-some p h, found) in
         rw c (same-comm b p ∙ sym (Bool·not-not (same p b)))
 
-    pub unchanged-none : length p ≤ n → eqb (length b) 0 ≡ not (changedBy p n es)
+    unchanged-none : length p ≤ n → eqb (length b) 0 ≡ not (changedBy p n es)
     unchanged-none l =
         let h : length p ≤ firstNul p = omega (arith, en) in
         let c : changedBy p n es ≡ ltb 0 (length b) =
@@ -131,6 +138,29 @@ module _ (p : Bytes) (n : ℕ) (en : n ≡ firstNul p) (es : Store) where
         ∙ changes-none (keyIn p) es
         ∙ rw found in
         rw c (eqb-zero (length b))
+
+  -- the key is absent: only a WRITE without a value changes nothing
+  pub unchanged-absent : lookup (take n p) es ≡ none → leb (length p) n ≡ not (changedBy p n es)
+  unfolding body
+  unchanged-absent h =
+      let e : _≡_ {A = Bytes} [] (body (take n p) (lookup (take n p) es)) = rw h in
+      either (leb (length p) n)
+      (λ t. t ∙ unchanged-none [] e (leb-true (length p) n t))
+      (λ t. let l = leb-false (length p) n t in
+      t ∙ sym (ne-same [] p (λ q. absurd (omega (arith, ap length q)))) ∙ unchanged-some [] e l)
+
+  -- the key has an entry: only a WRITE of the entry's body changes nothing
+  pub unchanged-present : (b : Bytes) → b ≡ body (take n p) (lookup (take n p) es)
+      → 0 < charge (take n p) (lookup (take n p) es) → same b p ≡ not (changedBy p n es)
+  unchanged-present b eb h =
+      let longer = body-longer (take n p) (lookup (take n p) es) h in
+      let size = ap length eb in
+      either (ltb n (length p))
+      (λ t. unchanged-some b eb (ltb-true n (length p) t))
+      (λ t. let l = ltb-false n (length p) t in
+      let k = ap length (take-all n p l) in
+      ne-same b p (λ q. absurd (omega (arith, ap length q)))
+      ∙ sym (ne-eqb (length b) 0 (λ z. omega arith)) ∙ unchanged-none b eb l)
 
 -- ---- the store
 
@@ -142,6 +172,17 @@ kept st k v f e =
     storeAfterWrite-split s v
     ∙ sym (s .whole ∙ ap (λ (o : Option Bytes). lower k (storeOf st) ++ (own k o ++ s .upper))
     (sym (unchanged k v (storeOf st) e)))
+
+-- a WRITE without a value that changes the store finds its key there
+pub row-present : {st p : Bytes} {n at old : ℕ} → KeyAt st p n at old → changedBy p n (storeOf st) ≡ true → length p ≤ n
+    → 0 < old
+row-present {st} {p} {n} {at} {old} h e l = go old refl
+  where
+    go : (k : ℕ) → old ≡ k → 0 < k
+    go zero z =
+        absurd (true≢false (sym (le-leb (length p) n l)
+        ∙ unchanged-absent p n (h .key) (storeOf st) (found-none (h .found) z) ∙ ap not e))
+    go (suc k) z = omega arith
 
 module _ {m p : Bytes} {n : ℕ} (w : Writing m p) (en : n ≡ firstNul p) where
   pub write-within : n ≤ length p
@@ -171,12 +212,13 @@ module _ {m p : Bytes} {n : ℕ} (w : Writing m p) (en : n ≡ firstNul p) where
     stored-some k = rw (value-some p within) (rw en at k)
 
   -- without one
-  pub stored-none : length p ≤ n → {m′ : Bytes} → Becomes m m′ (withStore (remove p (imageOf m .store)) (imageOf m))
+  pub stored-none : length p ≤ n → {m′ : Bytes}
+      → Becomes m m′ (withStore (remove (take n p) (imageOf m .store)) (imageOf m))
       → Becomes m m′ (withStore (storeAfter (writeFrom p) (imageOf m .store)) (imageOf m))
   unfolding storeAfter writeFrom storeAfterWrite
   stored-none l k =
       let h : length p ≤ firstNul p = omega (arith, en) in
-      rw (value-none p h, take-all (firstNul p) p h) k
+      rw (value-none p h) (rw en at k)
 
   -- ---- what it leaves
 

@@ -3,13 +3,15 @@ use mathlib.Core.Path.{_≡_}
 use mathlib.Core.Bool.{Bool, true, false, cond}
 use Prim.Native.Nat.{ℕ, _+_, _≤_}
 use lib.ListN.{length, take, drop}
-use Rattle.octets.specs.Octets.{Bytes}
+use Rattle.octets.specs.Octets.{Bytes, firstNul}
 use Rattle.protocol.specs.Terms.{Action, Message}
 use Rattle.message.specs.Writing.{said}
 use Rattle.message.specs.declared.Message.the-variants.{Info}
 use Rattle.server.specs.Store.{Store, storeFits, changes}
 use Rattle.server.specs.Step.{storeAfter, refuses}
 use Rattle.store.specs.Row.{keyOf, bodyOf, rowFine}
+use Rattle.store.specs.Region.{storeFine}
+use Rattle.store.specs.Operation.{Found}
 use Rattle.recording.specs.Command.{writeFrom, actionOf, commandFine}
 use Rattle.recording.specs.Turn.{valueIn}
 use Rattle.slot.specs.Image.{owed, notified, onClient}
@@ -36,6 +38,17 @@ pub record Writing (m p : Bytes) : Type 0 where
   pub sound : Sound m
   pub short : length p ≤ 65535
   pub fits : storeFits (imageOf m .sizes .storeRoom) (storeAfter (writeFrom p) (imageOf m .store)) ≡ true
+
+-- the key of a payload has n bytes, and its row is at a place of the store
+pub record KeyAt (st p : Bytes) (n at old : ℕ) : Type 0 where
+  pub fine : storeFine st ≡ true
+  pub key : n ≡ firstNul p
+  pub found : Found st (take n p) at old
+
+-- the turn of a WRITE, with the place of its key known
+pub record WritingAt (m p : Bytes) (n at old : ℕ) : Type 0 where
+  pub writing : Writing m p
+  pub place : KeyAt (storePart (sizesOf m) m) p n at old
 
 -- the turn of the WRITE is done, whichever slot it comes from
 abbrev pub Wrote : Bytes → Bytes → Bytes → Type 0

@@ -2,13 +2,12 @@
 // end every slot is settled. What is read from the store and owed to a client goes through a local
 // buffer, since both lie in the memory.
 ghost use mathlib.Core.Path.{_≡_};
-ghost use mathlib.Core.Bool.{true, not};
+ghost use mathlib.Core.Bool.{not};
 ghost use Prim.Native.Nat.{_≤_};
 ghost use lib.ListN.{length};
-ghost use Rattle.octets.specs.Octets.{firstNul};
 ghost use Rattle.protocol.specs.Terms.{sub, read};
 ghost use Rattle.pattern.specs.Answer.{accepted};
-ghost use Rattle.store.specs.Region.{storeFine, storeOf};
+ghost use Rattle.store.specs.Region.{storeOf};
 ghost use Rattle.recording.specs.Command.{actionOf};
 ghost use Rattle.infod3.specs.Infod3.{infod3};
 ghost use Rattle.memory.specs.Image.{imageOf};
@@ -17,7 +16,7 @@ ghost use Rattle.memory.specs.Contracts.{Owing};
 ghost use Rattle.service.specs.Turn.{afterTurn, settledImage};
 ghost use Rattle.step.specs.TurnParts.{Turning, EntryAt, entryKey, entryBody, entryInfo};
 ghost use Rattle.step.specs.TurnParts.{StoredAt, OwingIf, Copied, NotifyingAll};
-ghost use Rattle.step.specs.TurnParts.{Writing, Wrote, changedBy};
+ghost use Rattle.step.specs.TurnParts.{Writing, KeyAt, WritingAt, Wrote, changedBy};
 use message::Message;
 
 // The turn of a command with this ID and payload, which is not refused.
@@ -141,35 +140,46 @@ fn copy_body(mem: &[u8], at: usize, buf: &mut [u8]) -> usize
     body.len()
 }
 
-// WRITE: if the value or presence of its key changes, the store is changed, and each client with a
-// matching pattern is owed one INFO.
+// WRITE: the place of its key is looked up, and it is done there.
 fn turn_write(mem: &mut [u8], p: &[u8])
     requires { ⌜ Writing (now mem) (now p) ⌝ }
     ensures { λ _. ⌜ Wrote (now (p .entry)) (now (mem .entry)) (now (mem .exit)) ⌝ }
 {
     let key = octets::first_nul(p);
-    if is_unchanged(memory::store_part(&mem[..]), p, key) {
+    let place = store::find(memory::store_part(&mem[..]), &p[..key]);
+    let at = place.at;
+    let old = place.len;
+    write_at(mem, p, key, at, old);
+}
+
+// A WRITE of a payload, whose key has `key` bytes and its row at offset `at`, `old` bytes long and 0
+// where it is absent. If the value or presence of the key changes, the store is changed, and each
+// client with a matching pattern is owed one INFO.
+pub fn write_at(mem: &mut [u8], p: &[u8], key: usize, at: usize, old: usize)
+    requires { ⌜ WritingAt (now mem) (now p) key at old ⌝ }
+    ensures { λ _. ⌜ Wrote (now (p .entry)) (now (mem .entry)) (now (mem .exit)) ⌝ }
+{
+    if is_unchanged(memory::store_part(&mem[..]), p, key, at, old) {
         return;
     }
     if key < p.len() {
-        memory::write(mem, p, key);
+        memory::write_at(mem, at, old, p, key);
     } else {
-        memory::delete(mem, p);
+        memory::delete_at(mem, at, old);
     }
     notify_all(mem, p, key);
 }
 
-// Whether the WRITE of a payload, whose key has `key` bytes, leaves the store as it is: the entry
-// has this value already, or there is none to delete.
-fn is_unchanged(store: &[u8], p: &[u8], key: usize) -> bool
-    requires { ⌜ (storeFine (now store) ≡ true) × (key ≡ firstNul (now p)) ⌝ }
+// Whether the WRITE of a payload leaves the store as it is: the entry has this value already, or
+// there is none to delete.
+fn is_unchanged(store: &[u8], p: &[u8], key: usize, at: usize, old: usize) -> bool
+    requires { ⌜ KeyAt (now store) (now p) key at old ⌝ }
     ensures { λ b. ⌜ b ≡ not (changedBy (now (p .entry)) key (storeOf (now (store .entry)))) ⌝ }
 {
-    let body = store::look_up(store, &p[..key]);
-    if key < p.len() {
-        return octets::equal(body, p);
+    if old == 0 {
+        return p.len() <= key;
     }
-    body.len() == 0
+    octets::equal(store::body_at(store, at), p)
 }
 
 // Owes each client with a pattern for the key one INFO of the body.

@@ -13,7 +13,7 @@ use lib.Seq.{sets, length-sets, length-take-le}
 use Rattle.octets.specs.Octets.{Bytes}
 use Rattle.octets.specs.Part.{part}
 use Rattle.octets.proofs.Parts.{drop-part}
-use Rattle.server.specs.Store.{Entry, lookup, remove, storeAfterWrite, storeCharge, storeFits}
+use Rattle.server.specs.Store.{Entry, lookup, storeAfterWrite, storeCharge, storeFits}
 use Rattle.server.specs.Invariant.{Ascending}
 use Rattle.server.proofs.Tests.{and-left, and-right}
 use Rattle.server.proofs.Stores.{ascending-storeAfterWrite}
@@ -179,12 +179,3 @@ gone {st} {k} {at} {old} f d h =
       count = omega arith;
       few = omega (arith, r .few, r .count);
     }
-
--- an absent key taken out
-pub becomes-absent : {st k : Bytes} {at len : ℕ} → storeFine st ≡ true → Found st k at len → len ≡ 0
-    → Becomes st st (remove k (storeOf st))
-unfolding own
-becomes-absent {st} {k} f d z =
-    let s = parts st k f in
-    let w : storeOf st ≡ lower k (storeOf st) ++ s .upper = rw (found-none d z) at (s .whole) in
-    record { same-length = refl; fine = f; holds = w ∙ sym (s .remove-split) }

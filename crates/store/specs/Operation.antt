@@ -85,6 +85,13 @@ pub record WritableAt (st p : Bytes) (n at old : ℕ) : Type 0 where
   pub writable : Writable st p n
   pub found : Found st (take n p) at old
 
+-- the place of the row of some key that is there
+pub record PresentAt (st : Bytes) (at old : ℕ) : Type 0 where
+  pub fine : storeFine st ≡ true
+  pub key : Bytes
+  pub found : Found st key at old
+  pub present : 0 < old
+
 -- a region after an operation: as long as before, and it holds the store es
 pub record Becomes (st st′ : Bytes) (es : Store) : Type 0 where
   pub same-length : length st′ ≡ length st
@@ -95,6 +102,6 @@ pub record Becomes (st st′ : Bytes) (es : Store) : Type 0 where
 abbrev pub Written : Bytes → Bytes → Bytes → ℕ → Type 0
 Written st st′ p n = Becomes st st′ (putPayload p n (storeOf st))
 
--- a region after the key is taken out
-abbrev pub Deleted : Bytes → Bytes → Bytes → Type 0
-Deleted st st′ k = Becomes st st′ (remove k (storeOf st))
+-- a region after the row at a place is taken out: the key that had it is gone
+abbrev pub DeletedAt : ℕ → ℕ → Bytes → Bytes → Type 0
+DeletedAt at old st st′ = (k : Bytes) → Found st k at old → Becomes st st′ (remove k (storeOf st))

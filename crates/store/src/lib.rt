@@ -18,6 +18,5 @@ pub use reading::look_up;
 pub use reading::row_size;
 pub use reading::used;
 pub use writing::clear;
-pub use writing::delete;
-pub use writing::write;
+pub use writing::delete_at;
 pub use writing::write_at;

@@ -2,15 +2,13 @@
 // else is moved. Bytes of the room behind the rows may be anything afterwards: the meaning does not
 // see them.
 ghost use mathlib.Core.Path.{_≡_};
-ghost use mathlib.Core.Bool.{true};
 ghost use mathlib.Core.List.{[]};
 ghost use Prim.Native.Nat.{ℕ, _+_, _≤_, _<_};
 ghost use lib.ListN.{length};
 ghost use lib.Seq.{sets};
 ghost use Rattle.octets.specs.Part.{part};
-ghost use Rattle.store.specs.Region.{headed, storeFine};
-ghost use Rattle.store.specs.Operation.{Writable, WritableAt, Becomes, Written, Deleted};
-use crate::reading::find;
+ghost use Rattle.store.specs.Region.{headed};
+ghost use Rattle.store.specs.Operation.{WritableAt, PresentAt, Becomes, Written, DeletedAt};
 use crate::reading::row_count;
 use crate::row;
 use octets::move_down;
@@ -67,29 +65,11 @@ pub fn write_at(st: &mut [u8], at: usize, old: usize, payload: &[u8], key: usize
     put_head(st, at + new + behind, count + 1 - row_count(old));
 }
 
-// Gives the payload's key the payload's value. The payload is a key of `key` bytes, NUL and a
-// value.
-pub fn write(st: &mut [u8], payload: &[u8], key: usize)
-    requires { ⌜ Writable (now st) (now payload) key ⌝ }
-    ensures { λ _. ⌜ Written (now (st .entry)) (now (st .exit)) (now (payload .entry)) key ⌝ }
+// Takes out the row of `old` bytes at offset `at`, which is some key's.
+pub fn delete_at(st: &mut [u8], at: usize, old: usize)
+    requires { ⌜ PresentAt (now st) at old ⌝ }
+    ensures { λ _. ⌜ DeletedAt at old (now (st .entry)) (now (st .exit)) ⌝ }
 {
-    let place = find(st, &payload[..key]);
-    let at = place.at;
-    let old = place.len;
-    write_at(st, at, old, payload, key);
-}
-
-// Takes out the key. An absent key leaves the store as it is.
-pub fn delete(st: &mut [u8], key: &[u8])
-    requires { ⌜ storeFine (now st) ≡ true ⌝ }
-    ensures { λ _. ⌜ Deleted (now (st .entry)) (now (st .exit)) (now (key .entry)) ⌝ }
-{
-    let place = find(st, key);
-    let at = place.at;
-    let old = place.len;
-    if old == 0 {
-        return;
-    }
     let used = u32_at(st, 0);
     let count = u32_at(st, 4);
     let behind = used - (at + old);

@@ -1,8 +1,8 @@
 -- The laws of one row: what its test says, what of it is seen through the front of a list, and the row that is written.
 use mathlib.Core.Path.{_≡_, sym, ap, _∙_}
 use mathlib.Core.List.{[], _∷_, _++_}
-use mathlib.Core.Bool.{true, _&&_}
-use Prim.Native.Nat.{ℕ, suc, _+_, _-_, _≤_, _<_}
+use mathlib.Core.Bool.{true, false, _&&_}
+use Prim.Native.Nat.{ℕ, suc, _+_, _-_, _≤_, _<_, min as least}
 use native.Mathlib.Nat.{add-zero}
 use native.Mathlib.Omega.{arith}
 use borrow.Author.Tests.{leb-true, ltb-true, eqb-true, le-leb, lt-ltb, eq-eqb}
@@ -15,7 +15,7 @@ use Rattle.octets.specs.Number.{numberAt, bigEndian}
 use Rattle.octets.proofs.Laws.{sets-append}
 use Rattle.octets.proofs.Parts.{part-take, part-add, length-part}
 use Rattle.octets.proofs.Numbers.{numberAt-take, numberAt-drop, numberAt-bigEndian-append, length-bigEndian}
-use Rattle.server.proofs.Tests.{and-left, and-right}
+use Rattle.server.proofs.Tests.{either, and-left, and-right}
 use Rattle.store.specs.Row.{bodyLength, keyLength, rowSize, keyOf, valueOf, bodyOf, entryOf, rowFine, rowBytes}
 
 -- ---- the test
@@ -243,6 +243,16 @@ unfolding rowFine
 rowFine-at s i b k eb ek =
     let j : i + (7 + k) ≡ i + 7 + k = omega arith in
     rw (body-at s i, key-at s i, ← eb, ← ek, length-drop i s, getD-drop i s 6 0, getD-drop i s (7 + k) 0, j)
+
+-- a body that is longer than the list, or than a body may be
+pub rowFine-long : (s : Bytes) (i : ℕ) → least (length s - i - 7) 65535 < numberAt 4 s i → rowFine (drop i s) ≡ false
+rowFine-long s i h =
+    either (rowFine (drop i s))
+    (λ e. let t = sound (drop i s) e .short in
+    let w = row-within s i e .whole in
+    let b = body-at s i in
+    absurd (omega arith))
+    (λ e. e)
 
 -- ---- a row written part by part
 

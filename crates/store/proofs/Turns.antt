@@ -12,9 +12,8 @@ use lib.ListN.{length, drop, length-drop}
 use lib.Seq.{drop-drop}
 use Rattle.octets.specs.Octets.{Bytes}
 use Rattle.octets.specs.Order.{before, order}
-use Rattle.octets.specs.declared.comparison.Order.{Order}
 use Rattle.octets.specs.declared.comparison.Order.the-variants.{Less, Equal, Greater}
-use Rattle.octets.proofs.Orders.{order-less, order-equal, order-greater, before-irrefl, before-asym}
+use Rattle.octets.proofs.Orders.{order-less, order-equal, order-greater}
 use Rattle.server.specs.Store.{Entry, Store, lookup, storeCharge}
 use Rattle.server.proofs.Tests.{either}
 use Rattle.server.proofs.Stores.{lookup-after}
@@ -28,11 +27,6 @@ use Rattle.store.proofs.Split.{lower-before, lookup-before, lower-same,
 
 -- ---- the test of the region
 
-abbrev isLess : Order → Bool
-isLess Less = true
-isLess Equal = false
-isLess Greater = false
-
 module _ (s : Bytes) (prev at : ℕ) where
   pub keyBefore-first : at ≡ 0 → keyBefore s prev at ≡ none
   unfolding keyBefore
@@ -44,22 +38,14 @@ module _ (s : Bytes) (prev at : ℕ) where
       let n : at ≡ 0 → ⊥ = λ e. omega arith in
       rw (ne-eqb at 0 n)
 
-pub before-order : (j k : Bytes) (o : Order) → o ≡ order j k → before j k ≡ isLess o
-before-order j k Less e = order-less j k (sym e)
-before-order j k Equal e = rw (order-equal j k (sym e)) (before-irrefl k)
-before-order j k Greater e = before-asym k j (order-greater j k (sym e))
-
--- a key behind another by their order
-pub follows-order : (s : Bytes) (prev at : ℕ) (o : Order) → (at ≡ 0 → ⊥)
-    → o ≡ order (keyOf (drop prev s)) (keyOf (drop at s))
-    → isLess o ≡ keyFollows s prev at
-unfolding follows keyFollows
-follows-order s prev at o n e =
-    rw (keyBefore-next s prev at (omega arith)) (sym (before-order (keyOf (drop prev s)) (keyOf (drop at s)) o e))
-
 pub follows-first : (s : Bytes) (prev at : ℕ) → at ≡ 0 → true ≡ keyFollows s prev at
 unfolding follows keyFollows
 follows-first s prev at e = rw (keyBefore-first s prev at e)
+
+pub follows-next : (s : Bytes) (prev at : ℕ) → (at ≡ 0 → ⊥)
+    → before (keyOf (drop prev s)) (keyOf (drop at s)) ≡ keyFollows s prev at
+unfolding follows keyFollows
+follows-next s prev at n = rw (keyBefore-next s prev at (omega arith))
 
 -- The rows up to offset `at` have passed; `left` are left. The answer for all is the answer for the rest.
 pub record Checked (answer : Bool) (s : Bytes) (prev at left : ℕ) : Type 0 where

@@ -7,8 +7,6 @@ ghost use lib.ListN.{length, drop};
 ghost use Rattle.store.specs.Row.{rowFine};
 ghost use Rattle.store.specs.Region.{keyFollows, rowsFine, storeFine};
 use crate::row;
-use octets::Order;
-use octets::compare;
 use octets::u32_at;
 
 // Whether the key of the row at `at` comes after that of the row at `prev`. The row at 0 has none
@@ -20,12 +18,7 @@ fn key_follows(rows: &[u8], prev: usize, at: usize) -> bool
     if at == 0 {
         return true;
     }
-    let order = compare(row::key(rows, prev), row::key(rows, at));
-    match order {
-        Order::Less => true,
-        Order::Equal => false,
-        Order::Greater => false,
-    }
+    octets::precedes(row::key(rows, prev), row::key(rows, at))
 }
 
 // Whether `rows` is `count` whole rows and nothing else, keys strictly ascending.

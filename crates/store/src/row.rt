@@ -7,6 +7,7 @@ ghost use lib.Seq.{sets};
 ghost use Rattle.octets.specs.Part.{part};
 ghost use Rattle.store.specs.Row.{rowSize, keyOf, bodyOf, rowFine, rowBytes};
 use octets::copy;
+use octets::min;
 use octets::put_u16;
 use octets::put_u32;
 use octets::u16_at;
@@ -22,13 +23,12 @@ pub fn is_row(s: &[u8], i: usize) -> bool
     }
     let body = u32_at(s, i);
     let key = u16_at(s, i + 4);
+    // The body ends within s and has at most 65535 bytes: the smaller of the two bounds is both.
+    let most = min(s.len() - i - 7, 65535);
+    if most < body {
+        return false;
+    }
     if body <= key {
-        return false;
-    }
-    if 65535 < body {
-        return false;
-    }
-    if s.len() - i < 7 + body {
         return false;
     }
     if s[i + 6] != 0 {

@@ -2,7 +2,7 @@
 use mathlib.Core.Path.{_≡_, refl, sym, ap, subst, _∙_}
 use mathlib.Core.List.{List, [], _∷_, _++_}
 use mathlib.Core.Bool.{Bool, true, false, cond, true≢false}
-use Prim.Native.Nat.{ℕ, _+_, _-_, _≤_, _<_}
+use Prim.Native.Nat.{ℕ, _+_, _-_, _≤_}
 use native.Mathlib.Omega.{arith}
 use lib.Dec.{leb, ltb}
 use lib.ListN.{length, take, drop, length-take}
@@ -21,6 +21,7 @@ use Rattle.wire.specs.Post.{roomIn}
 use Rattle.wire.proofs.ReadLaws.{read-received}
 use Rattle.server.specs.Decision.{feeds, Decision, unaltered}
 use Rattle.server.specs.Feed.{decideReading, decideCut, decideFeed}
+use Rattle.server.proofs.Tests.{by-test}
 use Rattle.slot.specs.Image.{ClientImage, SlotImage, free, used}
 use Rattle.memory.specs.Image.{Image, slotIn, clientAt, imageOf}
 use Rattle.infod3.specs.Infod3.{infod3}
@@ -29,25 +30,46 @@ use Rattle.broker.specs.FeedParts.{messageDecision}
 
 -- ---- the kind
 
--- a kind that is fixed stays
-kindOf-fixed : (k : Kind) (s t : Bytes) → (0 < length s) → kindOf (kindOf k s) t ≡ kindOf k s
-unfolding kindOf
-kindOf-fixed Packets s t h = refl
-kindOf-fixed Stream [] t h = absurd (omega arith)
-kindOf-fixed Stream (c ∷ s) t h = by (startsText c)
-  where
-    by : (b : Bool) → kindOf (cond b Text Framed) t ≡ cond b Text Framed
-    by true = refl
-    by false = refl
-kindOf-fixed Framed s t h = refl
-kindOf-fixed Text s t h = refl
+-- 1 for a kind that a message has yet to fix
+abbrev pub rank : Kind → ℕ
+rank Packets = 0
+rank Stream = 1
+rank Framed = 0
+rank Text = 0
 
--- a whole message is a packet, or is not empty
-whole-some : (k : Kind) (n : ℕ) → isWhole k n ≡ true → (k ≡ Packets → ⊥) → 0 < n
-whole-some Packets n w h = absurd (h refl)
-whole-some Stream n w h = ltb-true 0 n w
-whole-some Framed n w h = ltb-true 0 n w
-whole-some Text n w h = ltb-true 0 n w
+-- the first message of a stream fixes it
+pub rank-kindOf : (s : Bytes) → isWhole Stream (length s) ≡ true → rank (kindOf Stream s) ≡ 0
+unfolding kindOf
+rank-kindOf [] w = absurd (omega (arith, ltb-true 0 0 w))
+rank-kindOf (c ∷ s) w = by-test (λ (k : Kind). rank k ≡ 0) (startsText c) (λ e. refl) (λ e. refl)
+
+-- every other kind stays
+pub kindOf-fixed : (k : Kind) (s : Bytes) → rank k ≡ 0 → kindOf k s ≡ k
+unfolding kindOf
+kindOf-fixed Packets s e = refl
+kindOf-fixed Stream s e = absurd (omega (arith, e))
+kindOf-fixed Framed s e = refl
+kindOf-fixed Text s e = refl
+
+-- a message that fixed the kind fixes none again
+pub kindOf-twice : (k : Kind) (s : Bytes) → kindOf (kindOf k s) s ≡ kindOf k s
+unfolding kindOf
+kindOf-twice Packets s = refl
+kindOf-twice Stream [] = refl
+kindOf-twice Stream (c ∷ s) =
+    by-test (λ (k : Kind). kindOf k (c ∷ s) ≡ k) (startsText c) (λ e. refl) (λ e. refl)
+kindOf-twice Framed s = refl
+kindOf-twice Text s = refl
+
+-- a message is whole in the kind that it fixes where it is whole in the client's
+pub isWhole-kindOf : (k : Kind) (s : Bytes) (n : ℕ) → isWhole (kindOf k s) n ≡ isWhole k n
+unfolding kindOf
+isWhole-kindOf Packets s n = refl
+isWhole-kindOf Stream [] n = refl
+isWhole-kindOf Stream (c ∷ s) n =
+    by-test (λ (k : Kind). isWhole k n ≡ ltb 0 n) (startsText c) (λ e. refl) (λ e. refl)
+isWhole-kindOf Framed s n = refl
+isWhole-kindOf Text s n = refl
 
 module _ (k : Kind) (s : Bytes) (w : isWhole k (length (message k s)) ≡ true) where
   -- the message fixes the kind that the input does
@@ -64,22 +86,11 @@ module _ (k : Kind) (s : Bytes) (w : isWhole k (length (message k s)) ≡ true) 
       go Framed v = refl
       go Text v = refl
 
-  pub cut-fixed : kindOf (kindOf k s) (message k s) ≡ kindOf k s
-  unfolding kindOf
-  cut-fixed = go k w
-    where
-      go : (l : Kind) → isWhole l (length (message l s)) ≡ true → kindOf (kindOf l s) (message l s) ≡ kindOf l s
-      go Packets v = refl
-      go Stream v =
-          kindOf-fixed Stream s (message Stream s)
-          (omega (arith, ltb-true 0 (length (message Stream s)) v, length-take (messageLength Stream s) s))
-      go Framed v = refl
-      go Text v = refl
-
   -- the message says the same in the kind that it fixes
   pub cut-reading : reading (kindOf k s) (message k s) ≡ reading k (message k s)
   cut-reading =
-      ap (λ (l : Kind). readingLine (decodedIn l (message k s))) (cut-fixed ∙ sym cut-kind)
+      ap (λ (l : Kind). readingLine (decodedIn l (message k s)))
+      (ap (λ (l : Kind). kindOf l (message k s)) (sym cut-kind) ∙ kindOf-twice k (message k s))
 
 -- ---- its length
 

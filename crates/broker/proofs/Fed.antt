@@ -24,9 +24,10 @@ use Rattle.infod3.specs.Infod3.{infod3}
 use Rattle.service.specs.Service.{asClient, decide, afterEvent}
 use Rattle.service.specs.Contracts.{Serves}
 use Rattle.memory.proofs.Lent.{open-used, open-not-shut}
-use Rattle.broker.specs.FeedParts.{Speaking, Feeding, Obeys, messageDecision}
+use Rattle.broker.specs.FeedParts.{Speaking, Feeding, Sending, Obeys, messageDecision}
+use Rattle.broker.proofs.Decided.{obeys-as}
 use Rattle.broker.proofs.Serving.{client-is, serves-held}
-use Rattle.broker.proofs.Cuts.{feed-whole}
+use Rattle.broker.proofs.Cuts.{kindOf-twice, isWhole-kindOf, cut-kind, feed-whole}
 
 -- an open client
 pub open-client : (i : ℕ) (im : Image) → isUsed (slotIn i im) ≡ true → clientAt i im .shut ≡ false
@@ -34,9 +35,34 @@ pub open-client : (i : ℕ) (im : Image) → isUsed (slotIn i im) ≡ true → c
 unfolding isOpen clientAt
 open-client i im u o = rw (u, o)
 
-pub feeding-as : {m : Bytes} {i : ℕ} {k l : Kind} {bs cs : Bytes} → k ≡ l → bs ≡ cs → Feeding m i l cs → Feeding m i
+-- ---- the message
+
+module _ {m : Bytes} {i : ℕ} {k : Kind} {bs : Bytes} (h : Sending m i k bs) where
+  -- it is fed in the kind that it fixes
+  pub sending-feeding : {l : Kind} → kindOf k bs ≡ l → Feeding m i l bs
+  sending-feeding e =
+      record {
+        speaking = h .speaking;
+        fixed = subst (λ (x : Kind). kindOf x bs ≡ x) e (kindOf-twice k bs);
+        limited = rw e at (h .limited);
+      }
+
+  -- and is sent in that kind as well
+  pub sending-fixed : {l : Kind} → l ≡ kindOf k bs → Sending m i l bs
+  sending-fixed e =
+      record {
+        speaking = h .speaking;
+        whole = rw (e, isWhole-kindOf k bs (length bs)) (h .whole);
+        limited = rw (e, kindOf-twice k bs) (h .limited);
+      }
+
+pub sending-as : {m : Bytes} {i : ℕ} {k l : Kind} {bs cs : Bytes} → k ≡ l → bs ≡ cs → Sending m i l cs → Sending m i
     k bs
-feeding-as e f h = rw (e, f) h
+sending-as e f h = rw (e, f) h
+
+pub obeys-kind : {k l : Kind} {m m′ : Bytes} {a n : ℕ} (i : ℕ) (bs : Bytes) → k ≡ l
+    → Obeys (messageDecision m i l bs) m a n m′ → Obeys (messageDecision m i k bs) m a n m′
+obeys-kind {m = m} i bs e = obeys-as (ap (λ (k : Kind). messageDecision m i k bs) e)
 
 -- ---- the answers
 
@@ -84,22 +110,24 @@ answer-reading z s i n k (invalid r) c = never-small r
 
 pub serves-fed : {m : Bytes} {i : ℕ} → Speaking m i → (bs : Bytes)
     → isWhole (clientAt i (imageOf m) .kind) (length (message (clientAt i (imageOf m) .kind) bs)) ≡ true
-    → {k : Kind} {cut : Bytes} → k ≡ kindOf (clientAt i (imageOf m) .kind) bs
+    → {k : Kind} {cut : Bytes} → k ≡ clientAt i (imageOf m) .kind
     → cut ≡ message (clientAt i (imageOf m) .kind) bs → {a n : ℕ} {m′ : Bytes}
-    → Obeys (messageDecision m i k cut) m a n m′ → Serves infod3 (feeds i bs) m a n m′
+    → Obeys (messageDecision m i (kindOf k cut) cut) m a n m′ → Serves infod3 (feeds i bs) m a n m′
 unfolding messageDecision clientAt clientIn
 serves-fed {m} {i} s bs w {k} {cut} e f {a} {n} {m′} o =
     let im = imageOf m in
     let c = clientAt i im in
     let u = client-is i im (open-used (slotIn i im) (s .in-open .has-open)) in
     let v : c .shut ≡ false = rw u at (open-not-shut (slotIn i im) (s .in-open .has-open)) in
-    let d = messageDecision m i k cut in
-    let g : decide infod3 (feeds i bs) im ≡ d = feed-whole im i bs c u v w ∙ sym (rw (e, f)) in
+    let l = kindOf k cut in
+    let d = messageDecision m i l cut in
+    let g : decide infod3 (feeds i bs) im ≡ d =
+    feed-whole im i bs c u v w ∙ sym (rw (e, f, cut-kind (c .kind) bs w)) in
     serves-held d (s .fine) g (o .answered) (o .counted)
-    (λ l h. absurd (omega (
+    (λ j h. absurd (omega (
       arith,
       o .answered,
-      answer-reading (im .sizes) (im .store) i (length cut) k (reading k cut) (asClient c) (omega (
+      answer-reading (im .sizes) (im .store) i (length cut) l (reading l cut) (asClient c) (omega (
         arith,
         o
             .answered,

@@ -2,13 +2,15 @@
 // refused.
 ghost use mathlib.Core.Path.{_≡_};
 ghost use mathlib.Core.Bool.{true, false};
+ghost use Prim.Native.Nat.{_≤_};
 ghost use lib.ListN.{length};
 ghost use Rattle.octets.specs.Items.{isSome};
+ghost use Rattle.framing.specs.Framing.{kindOf};
 ghost use Rattle.command.specs.Meaning.{meant};
 ghost use Rattle.wire.specs.Post.{roomIn};
 ghost use Rattle.recording.specs.Command.{actionOf, commandFine};
 ghost use Rattle.memory.specs.Image.{clientAt, imageOf};
-ghost use Rattle.broker.specs.FeedParts.{Feeding, HasBuffer, Speaking, Says, Obeys};
+ghost use Rattle.broker.specs.FeedParts.{Speaking, Feeding, Sending, HasBuffer, Says, Obeys};
 ghost use Rattle.broker.specs.FeedParts.{messageDecision, readingDecision};
 ghost use Rattle.broker.specs.FeedParts.{refusalDecision, actionDecision};
 ghost use Rattle.step.specs.TurnParts.{refusedIn};
@@ -20,18 +22,27 @@ use protocol::Kind;
 use protocol::Refusal;
 use wire::Reading;
 
-// Obeys a message that was cut from the client's input. A text line is translated into a buffer
-// that is as long as it; packets and frames need none.
+// Obeys a message that was cut from the client's input. The first message of a stream fixes its
+// kind, and is then obeyed in that kind. A text line is translated into a buffer that is as long as
+// it; packets and frames need none. The buffer of a long line stands in a function of its own,
+// which the compiler does not merge into this one, since this one calls itself: so only a long line
+// pays for the pages of that buffer.
 pub fn feed_message(mem: &mut [u8], slot: usize, kind: Kind, m: &[u8]) -> Reply
-    requires { ⌜ Feeding (now mem) slot kind (now m) ⌝ }
-    ensures { λ r. ⌜ Obeys (messageDecision (now (mem .entry)) slot kind (now (m .entry)))
+    requires { ⌜ Sending (now mem) slot kind (now m) ⌝ }
+    ensures { λ r. ⌜ Obeys (messageDecision (now (mem .entry)) slot
+        (kindOf kind (now (m .entry))) (now (m .entry)))
         (now (mem .entry)) (r .answer) (r .count) (now (mem .exit)) ⌝ }
 {
     match kind {
         Kind::Packets => feed_binary(mem, slot, kind, m),
-        Kind::Stream => feed_binary(mem, slot, kind, m),
+        Kind::Stream => feed_message(mem, slot, framing::kind_of(kind, m), m),
         Kind::Framed => feed_binary(mem, slot, kind, m),
-        Kind::Text => feed_line(mem, slot, m),
+        Kind::Text => {
+            if 4096 < m.len() {
+                return feed_long_line(mem, slot, m);
+            }
+            feed_line(mem, slot, m)
+        }
     }
 }
 
@@ -45,15 +56,12 @@ fn feed_binary(mem: &mut [u8], slot: usize, kind: Kind, m: &[u8]) -> Reply
     feed_read(mem, slot, kind, m, &mut buf)
 }
 
-// Obeys a text line, with a short buffer where that is long enough.
+// Obeys a text line of at most 4,096 bytes.
 fn feed_line(mem: &mut [u8], slot: usize, m: &[u8]) -> Reply
-    requires { ⌜ Feeding (now mem) slot Kind.Text (now m) ⌝ }
+    requires { ⌜ (Feeding (now mem) slot Kind.Text (now m)) × (length (now m) ≤ 4096) ⌝ }
     ensures { λ r. ⌜ Obeys (messageDecision (now (mem .entry)) slot Kind.Text (now (m .entry)))
         (now (mem .entry)) (r .answer) (r .count) (now (mem .exit)) ⌝ }
 {
-    if 4096 < m.len() {
-        return feed_long_line(mem, slot, m);
-    }
     let mut buf = [0u8; 4096];
     feed_read(mem, slot, Kind::Text, m, &mut buf)
 }

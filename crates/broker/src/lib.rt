@@ -123,7 +123,7 @@ pub fn feed(mem: &mut [u8], slot: usize, input: &[u8]) -> Reply
     if is_partial(kind, m) {
         return unaltered(1);
     }
-    feeding::feed_message(mem, slot, framing::kind_of(kind, input), m)
+    feeding::feed_message(mem, slot, kind, m)
 }
 
 // Takes the first message of a client's queue: it is written at the front of out and removed, and

@@ -1,21 +1,21 @@
 -- `broker::feed` meets its contract.
-use mathlib.Core.Path.{_≡_, refl, sym, ap, subst, _∙_}
+use mathlib.Core.Path.{_≡_, refl, sym, ap, _∙_}
 use mathlib.Core.Bool.{true, false, not}
 use lib.ListN.{length}
 use borrow.Author.Needs.{needs}
 use borrow.Author.Tests.{not-true, not-false}
 use Rattle.octets.specs.Octets.{Bytes}
 use Rattle.protocol.specs.declared.Kind.{Kind}
-use Rattle.framing.specs.Framing.{kindOf, message}
+use Rattle.framing.specs.Framing.{message}
 use Rattle.wire.specs.Received.{isWhole}
 use Rattle.memory.specs.Image.{slotIn, isUsed, clientAt, imageOf}
 use Rattle.memory.specs.Rules.{memoryFine}
 use Rattle.memory.proofs.Fine.{fine-sound}
-use Rattle.broker.specs.FeedParts.{Speaking, Feeding}
+use Rattle.broker.specs.FeedParts.{Speaking}
 use Rattle.broker.proofs.Serving.{serves-broken, serves-unaltered, slot-inside, client-is}
 use Rattle.broker.proofs.Deciding.{not-used}
-use Rattle.broker.proofs.Cuts.{cut-fixed, cut-limited, feed-free, feed-shut, feed-partial}
-use Rattle.broker.proofs.Fed.{open-client, feeding-as, serves-fed}
+use Rattle.broker.proofs.Cuts.{cut-kind, cut-limited, feed-free, feed-shut, feed-partial}
+use Rattle.broker.proofs.Fed.{open-client, sending-as, serves-fed}
 use Rattle.broker.proofs.feed.Statement.{statement}
 use Rattle.broker.proofs.feed.Tie as tie
 
@@ -89,20 +89,6 @@ is-whole : (c : tie.Else4)
     ≡ true
 is-whole c = not-false _ (sym (whole-test (c .before)) ∙ c .if4 .left)
 
--- the kind that it fixes
-fixes : (c : tie.After-kind-of)
-    → c .kind-of .result
-    ≡ kindOf (clientAt (c .before .before .before .before .before .before .before .before .before .before .before
-    .before .before .before .before .before .before .before .args .slot) (imageOf (c .before .before .before .before
-    .before .before .before .before .before .before .before .before .before .before .before .before .before .before
-    .args .mem .now)) .kind) (c .before .before .before .before .before .before .before .before .before .before
-    .before .before .before .before .before .before .before .before .args .input .now)
-fixes c =
-    let k₀ = c .before .before .before .before .before .before .before .before .before .before .before .before
-    .before .before .before .before .before .before in
-    let p = c .before .before .before .before .before in
-    c .kind-of .ensures ∙ ap (λ (k : Kind). kindOf k (k₀ .args .input .now)) (p .kind .ensures)
-
 returns : tie.Need-returns
 returns c =
     serves-broken
@@ -161,29 +147,28 @@ returns-4 c =
 
 feed-message-requires : tie.Need-feed-message-requires
 feed-message-requires c κs =
-    let k₀ = c .before .before .before .before .before .before .before .before .before .before .before .before
-    .before .before .before .before .before .before in
-    let p = c .before .before .before .before .before .before .before in
-    let q = c .before .before .before .before in
-    let A = k₀ .args in
+    let A = c .before .before .before .before .before .before .before .before .before .before .before .before .before
+    .before .before .before .before .args in
     let k = clientAt (A .slot) (imageOf (A .mem .now)) .kind in
-    feeding-as (fixes c) (is-cut q)
+    let p = c .before .before .before .before .before .before in
+    let q = c .before .before .before in
+    let w = is-whole (c .before) in
+    sending-as (q .before .kind .ensures) (is-cut q)
     (record {
       speaking = speaking p;
-      fixed = cut-fixed k (A .input .now) (is-whole (c .before .before));
-      limited = cut-limited k (A .input .now);
+      whole = w;
+      limited = rw (cut-kind k (A .input .now) w) (cut-limited k (A .input .now));
     })
 
 returns-5 : tie.Need-returns-5
 returns-5 c =
     let k = c .before .before .before .before .before .before .before .before .before .before .before .before .before
-    .before .before .before .before .before .before .before .before in
-    let p = c .before .before .before .before .before .before .before .before .before .before in
-    let q = c .before .before .before .before .before .before .before in
-    let r = c .before .before .before .before .before in
-    let u = c .before .before .before in
-    serves-fed (speaking p) (k .args .input .now) (is-whole r) (fixes u)
-    (is-cut q) (c .before .before .feed-message .ensures)
+    .before .before .before .before .before .before .before in
+    let p = c .before .before .before .before .before .before .before .before .before in
+    let q = c .before .before .before .before .before .before in
+    let r = c .before .before .before .before in
+    serves-fed (speaking p) (k .args .input .now) (is-whole r) (q .before .kind .ensures) (is-cut q)
+    (c .before .before .feed-message .ensures)
 
 pub feed-spec : {M : Type 1} → statement M
 feed-spec =
@@ -207,7 +192,6 @@ feed-spec =
     (λ c κs. search needs)
     (λ c. search needs)
     returns-4
-    (λ c κs. search needs)
     feed-message-requires
     (λ c. search needs)
     returns-5)

@@ -8,18 +8,9 @@ use Rattle.broker.proofs.feeding.feed_line.Tie as tie
 
 feed-read-requires : tie.Need-feed-read-requires
 feed-read-requires c κs =
-    let k = c .before .before .before .before .before in
-    let short = c .before .before .if1 .left in
-    (k .pre, omega (arith, short, roomIn-le Text (k .args .m .now)))
+    let k = c .before .before .before .before in
+    (k .pre .0, omega (arith, k .pre .1, roomIn-le Text (k .args .m .now)))
 
 pub feed-line-spec : {M : Type 1} → statement M
 feed-line-spec =
-    tie.close
-    (tie.spec
-    (λ c κs. search needs)
-    (λ c. search needs)
-    (λ c. search needs)
-    (λ c. search needs)
-    feed-read-requires
-    (λ c. search needs)
-    (λ c. search needs))
+    tie.close (tie.spec (λ c. search needs) feed-read-requires (λ c. search needs) (λ c. search needs))

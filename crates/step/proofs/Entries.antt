@@ -6,7 +6,7 @@ use mathlib.Core.Option.{Option, some, none}
 use Prim.Native.Nat.{ℕ, _+_, _≤_, _<_}
 use native.Mathlib.Nat.{add-zero, zero-add}
 use native.Mathlib.Omega.{arith}
-use lib.ListN.{length, drop}
+use lib.ListN.{length, drop, length-append}
 use lib.Seq.{sets}
 use Rattle.octets.specs.Octets.{Bytes}
 use Rattle.octets.proofs.Parts.{length-part, part-sets-same}
@@ -113,6 +113,12 @@ count-entries {m} h e = e ∙ sym (length-storeOf (storePart (sizesOf m) m) (h .
 
 -- ---- a key that was looked for
 
+-- what a key with a value charges is its body and a head of seven bytes
+charge-body : (k : Bytes) (o : Option Bytes) → 0 < charge k o → charge k o ≡ 7 + length (body k o)
+unfolding charge body
+charge-body k none h = absurd (omega arith)
+charge-body k (some v) h = rw length-append (omega arith)
+
 body-tail : (k : Bytes) (o : Option Bytes) → 0 < charge k o → body k o ≡ k ++ valueTail o
 unfolding charge body valueTail
 body-tail k none h = absurd (omega arith)
@@ -121,6 +127,12 @@ body-tail k (some v) h = refl
 module _ {m k : Bytes} {at len : ℕ} (h : Sound m) (d : Found (storePart (sizesOf m) m) k at len) where
   pub found-entry : 0 < len → rowFine (rowFrom m at) ≡ true
   found-entry l = found-row (h .store) d l .0
+
+  -- its row is the body and a head of seven bytes
+  pub found-size : 0 < len → len ≡ 7 + length (entryBody m at)
+  found-size l =
+      d .size ∙ charge-body k (lookup k (storeOf (storePart (sizesOf m) m))) (omega (arith, d .size))
+      ∙ ap (λ (b : Bytes). 7 + length b) (sym (found-row (h .store) d l .1))
 
   -- the body of the key's entry, and of an absent key
   pub found-body : 0 < len → entryBody m at ≡ k ++ valueTail (lookup k (imageOf m .store))

@@ -42,25 +42,32 @@ fn turn_sub(mem: &mut [u8], slot: usize, pattern: &[u8])
         (afterTurn infod3 slot (sub (now (pattern .entry))) (imageOf (now (mem .entry)))) ⌝ }
 {
     memory::add_pattern(mem, slot, pattern);
+    let mut buf = [0u8; 512];
     let n = store::count(memory::store_part(&mem[..]));
     let mut at = 0;
     let mut passed = 0;
     while passed < n {
-        owe_match(mem, slot, pattern, at);
+        owe_match(mem, slot, pattern, at, &mut buf);
         at += store::row_size(memory::store_part(&mem[..]), at);
         passed += 1;
     }
 }
 
-// Owes the client an INFO of the entry whose row is at the offset, if the pattern matches its key.
-fn owe_match(mem: &mut [u8], slot: usize, pattern: &[u8], at: usize)
-    requires { ⌜ EntryAt (now mem) slot at ⌝ }
+// Owes the client an INFO of the entry whose row is at the offset, if the pattern matches its key. A
+// body of at most 512 bytes goes through the buffer.
+fn owe_match(mem: &mut [u8], slot: usize, pattern: &[u8], at: usize, buf: &mut [u8])
+    requires { ⌜ (EntryAt (now mem) slot at) × (512 ≤ length (now buf)) ⌝ }
     ensures { λ _. ⌜ OwingIf (accepted (now (pattern .entry)) (entryKey (now (mem .entry)) at)) slot
         (entryInfo (now (mem .entry)) at) (now (mem .entry)) (now (mem .exit)) ⌝ }
 {
-    if pattern::accepts(pattern, store::key_at(memory::store_part(&mem[..]), at)) {
-        owe_entry(mem, slot, at);
+    if !pattern::accepts(pattern, store::key_at(memory::store_part(&mem[..]), at)) {
+        return;
     }
+    if 519 < store::row_size(memory::store_part(&mem[..]), at) {
+        owe_long_entry(mem, slot, at);
+        return;
+    }
+    owe_entry_with(mem, slot, at, buf);
 }
 
 // READ: an INFO with the key's value, or without one where the key is absent.
@@ -71,48 +78,43 @@ fn turn_read(mem: &mut [u8], slot: usize, key: &[u8])
 {
     let place = store::find(memory::store_part(&mem[..]), key);
     let at = place.at;
-    if place.len == 0 {
+    let len = place.len;
+    if len == 0 {
         memory::owe(mem, slot, Message::Info, key);
-    } else {
-        owe_entry(mem, slot, at);
+        return;
     }
-}
-
-// Owes the client an INFO of the entry whose row is at the offset. What a buffer costs goes by its
-// length, so a short entry has a short one.
-fn owe_entry(mem: &mut [u8], slot: usize, at: usize)
-    requires { ⌜ EntryAt (now mem) slot at ⌝ }
-    ensures { λ _. ⌜ Owing slot (entryInfo (now (mem .entry)) at)
-        (now (mem .entry)) (now (mem .exit)) ⌝ }
-{
-    if 519 < store::row_size(memory::store_part(&mem[..]), at) {
-        owe_longer_entry(mem, slot, at);
+    if 519 < len {
+        owe_long_entry(mem, slot, at);
         return;
     }
     let mut buf = [0u8; 512];
     owe_entry_with(mem, slot, at, &mut buf);
 }
 
-// The same with a longer buffer, where that is long enough.
-fn owe_longer_entry(mem: &mut [u8], slot: usize, at: usize)
-    requires { ⌜ EntryAt (now mem) slot at ⌝ }
-    ensures { λ _. ⌜ Owing slot (entryInfo (now (mem .entry)) at)
-        (now (mem .entry)) (now (mem .exit)) ⌝ }
-{
-    if 4103 < store::row_size(memory::store_part(&mem[..]), at) {
-        owe_long_entry(mem, slot, at);
-        return;
-    }
-    let mut buf = [0u8; 4096];
-    owe_entry_with(mem, slot, at, &mut buf);
-}
-
-// Owes the client an INFO of an entry of any length.
+// Owes the client an INFO of an entry of any length. What a buffer costs goes by its length, so
+// each is four times as long as the one before it. They stand in a function of their own, so that
+// a short entry does not pay for the pages of a long one's buffer.
 fn owe_long_entry(mem: &mut [u8], slot: usize, at: usize)
     requires { ⌜ EntryAt (now mem) slot at ⌝ }
     ensures { λ _. ⌜ Owing slot (entryInfo (now (mem .entry)) at)
         (now (mem .entry)) (now (mem .exit)) ⌝ }
 {
+    let size = store::row_size(memory::store_part(&mem[..]), at);
+    if size <= 2055 {
+        let mut buf = [0u8; 2048];
+        owe_entry_with(mem, slot, at, &mut buf);
+        return;
+    }
+    if size <= 8199 {
+        let mut buf = [0u8; 8192];
+        owe_entry_with(mem, slot, at, &mut buf);
+        return;
+    }
+    if size <= 32775 {
+        let mut buf = [0u8; 32768];
+        owe_entry_with(mem, slot, at, &mut buf);
+        return;
+    }
     let mut buf = [0u8; 65535];
     owe_entry_with(mem, slot, at, &mut buf);
 }

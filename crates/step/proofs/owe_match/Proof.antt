@@ -1,17 +1,20 @@
 -- `step::owe_match` meets its contract.
 use mathlib.Core.Path.{_≡_, sym, _∙_}
+use native.Mathlib.Omega.{arith}
 use borrow.Author.Needs.{needs}
+use borrow.Author.Tests.{not-true, not-false}
 use Rattle.pattern.specs.Answer.{accepted}
 use Rattle.step.specs.TurnParts.{entryKey}
+use Rattle.step.proofs.Entries.{row-body}
 use Rattle.step.proofs.Walk.{owing-yes, owing-no}
 use Rattle.step.proofs.owe_match.Statement.{statement}
 use Rattle.step.proofs.owe_match.Tie as tie
 
 key-at-requires : tie.Need-key-at-requires
-key-at-requires c κs = rw (c .store-part .ensures) (c .before .before .before .before .pre .row)
+key-at-requires c κs = rw (c .store-part .ensures) (c .before .before .before .before .before .pre .0 .row)
 
 abbrev start : tie.After-accepts → tie.Start
-start c = c .before .before .before .before .before .before
+start c = c .before .before .before .before .before .before .before
 
 -- the test is that of the entry's key
 tested : (c : tie.After-accepts)
@@ -23,14 +26,31 @@ tested c =
 
 returns : tie.Need-returns
 returns c =
-    let test = c .before .before .before .before .before in
-    let yes = c .before .before .before .before .if1 .taken in
-    owing-yes _ (start test .args .slot) _ (sym (tested test) ∙ yes) (c .before .before .owe-entry .ensures)
+    let begin = start (c .before) in
+    owing-no _ (begin .args .slot) _ (sym (tested (c .before)) ∙ not-true _ (c .if1 .taken))
+    (begin .pre .0 .in-open .in-slot .sound)
+
+row-size-requires : tie.Need-row-size-requires
+row-size-requires c κs = rw (c .store-part2 .ensures) (c .before .before .before .before .before .before .before .before .before .before .pre .0 .row)
 
 returns-2 : tie.Need-returns-2
 returns-2 c =
-    let begin = start (c .before) in
-    owing-no _ (begin .args .slot) _ (sym (tested (c .before)) ∙ c .if1 .left) (begin .pre .in-open .in-slot .sound)
+    let test = c .before .before .before .before .before .before .before .before .before in
+    owing-yes _ (start test .args .slot) _ (sym (tested test) ∙ not-false _ (c .before .before .before .before .before .before .before .before .if1 .left))
+    (c .before .before .owe-long-entry .ensures)
+
+owe-entry-with-requires : tie.Need-owe-entry-with-requires
+owe-entry-with-requires c κs =
+    let size = c .before .before .before in
+    let begin = c .before .before .before .before .before .before .before .before .before .before .before .before .before .before in
+    let n = rw (c .before .before .before .before .store-part2 .ensures) at (size .row-size .ensures) in
+    (begin .pre .0, omega (arith, row-body _ (begin .pre .0 .row), n, c .before .before .if2 .left, begin .pre .1))
+
+returns-3 : tie.Need-returns-3
+returns-3 c =
+    let test = c .before .before .before .before .before .before .before .before .before .before .before .before in
+    owing-yes _ (start test .args .slot) _ (sym (tested test) ∙ not-false _ (c .before .before .before .before .before .before .before .before .before .before .before .if1 .left))
+    (c .before .before .before .before .owe-entry-with .ensures)
 
 pub owe-match-spec : {M : Type 1} → statement M
 owe-match-spec =
@@ -39,8 +59,14 @@ owe-match-spec =
     (λ c κs. search needs)
     key-at-requires
     (λ c κs. search needs)
-    (λ c κs. search needs)
     (λ c. search needs)
     returns
+    (λ c κs. search needs)
+    row-size-requires
+    (λ c κs. search needs)
     (λ c. search needs)
-    returns-2)
+    returns-2
+    owe-entry-with-requires
+    (λ c. search needs)
+    (λ c. search needs)
+    returns-3)

@@ -53,8 +53,8 @@ fn turn_sub(mem: &mut [u8], slot: usize, pattern: &[u8])
     }
 }
 
-// Owes the client an INFO of the entry whose row is at the offset, if the pattern matches its key. A
-// body of at most 512 bytes goes through the buffer.
+// Owes the client an INFO of the entry whose row is at the offset, if the pattern matches its key.
+// A body of at most 512 bytes goes through the buffer.
 fn owe_match(mem: &mut [u8], slot: usize, pattern: &[u8], at: usize, buf: &mut [u8])
     requires { ⌜ (EntryAt (now mem) slot at) × (512 ≤ length (now buf)) ⌝ }
     ensures { λ _. ⌜ OwingIf (accepted (now (pattern .entry)) (entryKey (now (mem .entry)) at)) slot
@@ -92,8 +92,8 @@ fn turn_read(mem: &mut [u8], slot: usize, key: &[u8])
 }
 
 // Owes the client an INFO of an entry of any length. What a buffer costs goes by its length, so
-// each is four times as long as the one before it. They stand in a function of their own, so that
-// a short entry does not pay for the pages of a long one's buffer.
+// there are four. They stand in a function of their own, so that a short entry does not pay for the
+// pages of a long one's buffer.
 fn owe_long_entry(mem: &mut [u8], slot: usize, at: usize)
     requires { ⌜ EntryAt (now mem) slot at ⌝ }
     ensures { λ _. ⌜ Owing slot (entryInfo (now (mem .entry)) at)
@@ -154,9 +154,9 @@ fn turn_write(mem: &mut [u8], p: &[u8])
     write_at(mem, p, key, at, old);
 }
 
-// A WRITE of a payload, whose key has `key` bytes and its row at offset `at`, `old` bytes long and 0
-// where it is absent. If the value or presence of the key changes, the store is changed, and each
-// client with a matching pattern is owed one INFO.
+// A WRITE of a payload, whose key has `key` bytes. The key's row is at offset `at` and `old` bytes
+// long, 0 where the key is absent. If the value or presence of the key changes, the store is
+// changed, and each client with a matching pattern is owed one INFO.
 pub fn write_at(mem: &mut [u8], p: &[u8], key: usize, at: usize, old: usize)
     requires { ⌜ WritingAt (now mem) (now p) key at old ⌝ }
     ensures { λ _. ⌜ Wrote (now (p .entry)) (now (mem .entry)) (now (mem .exit)) ⌝ }

@@ -1,5 +1,6 @@
 -- `step::owe_match` meets its contract.
 use mathlib.Core.Path.{_≡_, sym, _∙_}
+use mathlib.Core.Bool.{true}
 use native.Mathlib.Omega.{arith}
 use borrow.Author.Needs.{needs}
 use borrow.Author.Tests.{not-true, not-false}
@@ -31,26 +32,36 @@ returns c =
     (begin .pre .0 .in-open .in-slot .sound)
 
 row-size-requires : tie.Need-row-size-requires
-row-size-requires c κs = rw (c .store-part2 .ensures) (c .before .before .before .before .before .before .before .before .before .before .pre .0 .row)
+row-size-requires c κs = rw (c .store-part2 .ensures) (start (c .before .before .before) .pre .0 .row)
+
+-- the pattern matches
+abbrev asked : tie.After-row-size → tie.Else1
+asked c = c .before .before .before
+
+matched : (c : tie.Else1)
+    → accepted (start (c .before) .args .pattern .now)
+    (entryKey (start (c .before) .args .mem .now) (start (c .before) .args .at)) ≡ true
+matched c = sym (tested (c .before)) ∙ not-false _ (c .if1 .left)
 
 returns-2 : tie.Need-returns-2
 returns-2 c =
-    let test = c .before .before .before .before .before .before .before .before .before in
-    owing-yes _ (start test .args .slot) _ (sym (tested test) ∙ not-false _ (c .before .before .before .before .before .before .before .before .if1 .left))
-    (c .before .before .owe-long-entry .ensures)
+    let owed = c .before .before in
+    let yes = asked (owed .before .before .before) in
+    owing-yes _ (start (yes .before) .args .slot) _ (matched yes) (owed .owe-long-entry .ensures)
 
 owe-entry-with-requires : tie.Need-owe-entry-with-requires
 owe-entry-with-requires c κs =
-    let size = c .before .before .before in
-    let begin = c .before .before .before .before .before .before .before .before .before .before .before .before .before .before in
-    let n = rw (c .before .before .before .before .store-part2 .ensures) at (size .row-size .ensures) in
-    (begin .pre .0, omega (arith, row-body _ (begin .pre .0 .row), n, c .before .before .if2 .left, begin .pre .1))
+    let short = c .before .before in
+    let size = short .before in
+    let begin = start (asked size .before) in
+    let n = rw (size .before .store-part2 .ensures) at (size .row-size .ensures) in
+    (begin .pre .0, omega (arith, row-body _ (begin .pre .0 .row), n, short .if2 .left, begin .pre .1))
 
 returns-3 : tie.Need-returns-3
 returns-3 c =
-    let test = c .before .before .before .before .before .before .before .before .before .before .before .before in
-    owing-yes _ (start test .args .slot) _ (sym (tested test) ∙ not-false _ (c .before .before .before .before .before .before .before .before .before .before .before .if1 .left))
-    (c .before .before .before .before .owe-entry-with .ensures)
+    let owed = c .before .before .before .before in
+    let yes = asked (owed .before .before .before .before) in
+    owing-yes _ (start (yes .before) .args .slot) _ (matched yes) (owed .owe-entry-with .ensures)
 
 pub owe-match-spec : {M : Type 1} → statement M
 owe-match-spec =

@@ -1,16 +1,25 @@
 -- `step::turn_read` meets its contract.
 use native.Mathlib.Omega.{arith}
 use borrow.Author.Needs.{needs}
+use Rattle.octets.specs.Octets.{Bytes}
+use Rattle.protocol.specs.Terms.{read}
 use Rattle.store.specs.Operation.{Found}
+use Rattle.infod3.specs.Infod3.{infod3}
 use Rattle.memory.specs.Layout.{sizesOf, storePart}
-use Rattle.step.specs.TurnParts.{EntryAt, entryBody}
+use Rattle.memory.specs.Image.{imageOf}
+use Rattle.memory.specs.Rules.{Becomes}
+use Rattle.memory.specs.Contracts.{Owing}
+use Rattle.service.specs.Turn.{afterTurn}
+use Rattle.step.specs.TurnParts.{EntryAt, entryBody, entryInfo}
 use Rattle.step.proofs.Entries.{found-entry, found-body, found-size, absent-body}
 use Rattle.step.proofs.Turns.{turn-short, read-becomes}
 use Rattle.step.proofs.turn_read.Statement.{statement}
 use Rattle.step.proofs.turn_read.Tie as tie
 
 find-requires : tie.Need-find-requires
-find-requires c κs = rw (c .store-part .ensures) (c .before .before .before .before .pre .in-open .in-slot .sound .store)
+find-requires c κs =
+    let begin = c .before .before .before .before in
+    rw (c .store-part .ensures) (begin .pre .in-open .in-slot .sound .store)
 
 abbrev start : tie.After-find → tie.Start
 start c = c .before .before .before .before .before
@@ -28,11 +37,13 @@ owe-requires c κs =
 
 returns : tie.Need-returns
 returns c =
-    let find = c .before .before .before .before .before in
+    let owed = c .before .before in
+    let none = owed .before .before in
+    let find = none .before in
     let a = start find .args in
     let o = start find .pre .in-open in
-    read-becomes o (a .key .now) (a .key .now) (absent-body (o .in-slot .sound) (place find) (c .before .before .before .before .if1 .taken))
-    (c .before .before .owe .ensures)
+    read-becomes o (a .key .now) (a .key .now) (absent-body (o .in-slot .sound) (place find) (none .if1 .taken))
+    (owed .owe .ensures)
 
 -- the key has an entry
 entry : (c : tie.Else1)
@@ -44,29 +55,36 @@ entry c =
 owe-long-entry-requires : tie.Need-owe-long-entry-requires
 owe-long-entry-requires c κs = entry (c .before .before)
 
+-- the INFO is that of the key
+told : (c : tie.Else1) {m : Bytes}
+    → Owing (start (c .before) .args .slot)
+    (entryInfo (start (c .before) .args .mem .now) (c .before .find .result .at)) (start (c .before) .args .mem .now) m
+    → Becomes (start (c .before) .args .mem .now) m
+    (afterTurn infod3 (start (c .before) .args .slot) (read (start (c .before) .args .key .now))
+    (imageOf (start (c .before) .args .mem .now)))
+told c w =
+    let a = start (c .before) .args in
+    let o = start (c .before) .pre .in-open in
+    read-becomes o (a .key .now) (entryBody (a .mem .now) (c .before .find .result .at))
+    (found-body (o .in-slot .sound) (place (c .before)) (omega (arith, c .if1 .left))) w
+
 returns-2 : tie.Need-returns-2
 returns-2 c =
-    let find = c .before .before .before .before .before .before in
-    let a = start find .args in
-    let o = start find .pre .in-open in
-    read-becomes o (a .key .now) (entryBody (a .mem .now) (find .find .result .at))
-    (found-body (o .in-slot .sound) (place find) (omega (arith, c .before .before .before .before .before .if1 .left)))
-    (c .before .before .owe-long-entry .ensures)
+    let owed = c .before .before in
+    told (owed .before .before .before) (owed .owe-long-entry .ensures)
 
 owe-entry-with-requires : tie.Need-owe-entry-with-requires
 owe-entry-with-requires c κs =
-    let find = c .before .before .before .before in
-    let h = start find .pre .in-open .in-slot .sound in
-    (entry (c .before .before .before), omega (arith, found-size h (place find) (omega (arith, c .before .before .before .if1 .left)), c .before .before .if2 .left))
+    let short = c .before .before in
+    let some = short .before in
+    let h = start (some .before) .pre .in-open .in-slot .sound in
+    let n = found-size h (place (some .before)) (omega (arith, some .if1 .left)) in
+    (entry some, omega (arith, n, short .if2 .left))
 
 returns-3 : tie.Need-returns-3
 returns-3 c =
-    let find = c .before .before .before .before .before .before .before .before in
-    let a = start find .args in
-    let o = start find .pre .in-open in
-    read-becomes o (a .key .now) (entryBody (a .mem .now) (find .find .result .at))
-    (found-body (o .in-slot .sound) (place find) (omega (arith, c .before .before .before .before .before .before .before .if1 .left)))
-    (c .before .before .before .owe-entry-with .ensures)
+    let owed = c .before .before .before in
+    told (owed .before .before .before .before) (owed .owe-entry-with .ensures)
 
 pub turn-read-spec : {M : Type 1} → statement M
 turn-read-spec =

@@ -8,11 +8,14 @@ use Rattle.step.proofs.turn_write.Tie as tie
 
 slice-aggregate-find : tie.Need-slice-aggregate-find
 slice-aggregate-find c =
-    let start = c .before .before .before .before .before .before in
-    sym (length-take-le _ (start .args .p .now) (write-within (start .pre) (c .before .before .before .first-nul .ensures)))
+    let first = c .before .before .before in
+    let start = first .before .before .before in
+    sym (length-take-le _ (start .args .p .now) (write-within (start .pre) (first .first-nul .ensures)))
 
 find-requires : tie.Need-find-requires
-find-requires c κs = rw (c .before .store-part .ensures) (c .before .before .before .before .before .before .pre .sound .store)
+find-requires c κs =
+    let start = c .before .before .before .before .before .before in
+    rw (c .before .store-part .ensures) (start .pre .sound .store)
 
 write-at-requires : tie.Need-write-at-requires
 write-at-requires c κs =

@@ -55,7 +55,10 @@ shift-requires : tie.Need-shift-requires
 shift-requires c κs = let g = read (c .before .before .before) in omega arith
 
 sub-put-head : tie.Need-sub-put-head
-sub-put-head c = let g = known (c .before .before .before .before .before .before .before .before .before .before) in omega (arith, c .before .before .before .before .before .u32-at2 .ensures .value)
+sub-put-head c =
+    let count = c .before .before .before .before .before in
+    let g = known (start (count .before .before)) in
+    omega (arith, count .u32-at2 .ensures .value)
 
 put-head-requires : tie.Need-put-head-requires
 put-head-requires c κs = let g = read (c .before .before .before .before .before .before .before) in omega arith

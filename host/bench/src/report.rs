@@ -77,15 +77,42 @@ pub fn page(rows: &[(Case, [Cost; 3])]) -> String {
             cells.join(" | ")
         );
     }
+    own_costs(&mut page, rows);
     let _ = writeln!(page, "\n## The rows\n");
     for (case, _) in rows {
         let _ = writeln!(page, "- **{}**: {}", case.name, case.text);
     }
+    page
+}
+
+/// What each call costs beyond the test of the memory, which is the first row.
+fn own_costs(page: &mut String, rows: &[(Case, [Cost; 3])]) {
+    let _ = writeln!(page, "\n## A call's own cost\n");
     let _ = writeln!(
         page,
-        "\nEvery call first tests the rules of the whole memory (answer 7), which walks the \
-         store's rows and the open clients: the first row is that test, and it is part of\nall \
-         others. So a call's own cost is its row less the first."
+        "Every call first tests the rules of the whole memory (answer 7), which walks the store's \
+         rows and the open clients: the first row is that test, and it is part of all others.\nHere \
+         each row stands less the first: what the call itself costs, and in brackets as a multiple \
+         of the reference's cost. More than twice the reference is bold.\n"
     );
-    page
+    let _ = writeln!(page, "| Call | 10 keys | 100 keys | 1,024 keys |");
+    let _ = writeln!(page, "|---|---|---|---|");
+    let test = rows[0].1;
+    for (case, costs) in &rows[1..] {
+        let cells: Vec<String> = costs
+            .iter()
+            .zip(&test)
+            .map(|(cost, test)| {
+                let own = (cost.library - case.calls_per_unit as f64 * test.library).max(0.0);
+                let ratio = own / cost.reference;
+                let text = format!("{} ({ratio:.1}×)", nanoseconds(own));
+                if ratio > 2.0 {
+                    format!("**{text}**")
+                } else {
+                    text
+                }
+            })
+            .collect();
+        let _ = writeln!(page, "| {} | {} |", case.name, cells.join(" | "));
+    }
 }

@@ -3,7 +3,7 @@
 ghost use mathlib.Core.Path.{_≡_};
 ghost use mathlib.Core.Bool.{true};
 ghost use Prim.Native.Nat.{_≤_};
-ghost use lib.ListN.{length};
+ghost use lib.ListN.{length, drop};
 ghost use Rattle.octets.specs.Items.{isSome};
 ghost use Rattle.protocol.specs.Terms.{begin, commit, payload};
 ghost use Rattle.recording.specs.Command.{commandFine};
@@ -11,10 +11,11 @@ ghost use Rattle.infod3.specs.Infod3.{infod3};
 ghost use Rattle.memory.specs.Image.{clientAt, imageOf};
 ghost use Rattle.memory.specs.Rules.{Becomes};
 ghost use Rattle.memory.specs.Contracts.{InUsed};
-ghost use Rattle.service.specs.Turn.{afterTurn, afterTurns};
+ghost use Rattle.service.specs.Turn.{afterTurns};
 ghost use Rattle.broker.specs.FeedParts.{Speaking, Obeys, commandDecision, actionDecision};
 ghost use Rattle.broker.specs.CommitParts.{recordedIn, commitRefusedIn};
-ghost use Rattle.broker.specs.CommitParts.{Committing, RecordedAt, rowAction, RowTurning};
+ghost use Rattle.broker.specs.CommitParts.{Committing, RecordedAt};
+ghost use Rattle.broker.specs.CommitParts.{rowAction, RowTurning, RowTurned};
 ghost use Rattle.step.specs.TurnParts.{Copied};
 use crate::Reply;
 use crate::done;
@@ -63,7 +64,7 @@ pub fn feed_commit(mem: &mut [u8], slot: usize, n: usize) -> Reply
     if commit_refused(&mem[..], slot) {
         return refuse(mem, slot, Refusal::Room, n);
     }
-    run_recorded(mem, slot);
+    run_recorded(mem, slot, 0, 0);
     memory::end_recording(mem, slot);
     step::settle_all(mem);
     done(n)
@@ -80,33 +81,36 @@ fn commit_refused(mem: &[u8], slot: usize) -> bool
     commit::refuses_any(memory::store_part(mem), recording, &mut patterns)
 }
 
-// Runs the recorded commands of a client in order, each at its turn.
-fn run_recorded(mem: &mut [u8], slot: usize)
-    requires { ⌜ Committing (now mem) slot ⌝ }
+// Runs the recorded commands of a client from the i-th on, whose row begins at the offset, in
+// order, each at its turn. The buffers of the rows stand in functions of their own, which the
+// compiler does not merge into this one, since this one calls itself: so only a commit pays for
+// the pages of those buffers.
+fn run_recorded(mem: &mut [u8], slot: usize, i: usize, at: usize)
+    requires { ⌜ Committing (now mem) slot i at ⌝ }
     ensures { λ _. ⌜ Becomes (now (mem .entry)) (now (mem .exit)) (afterTurns infod3 slot
-        (recordedIn (now (mem .entry)) slot) (imageOf (now (mem .entry)))) ⌝ }
+        (drop i (recordedIn (now (mem .entry)) slot)) (imageOf (now (mem .entry)))) ⌝ }
 {
-    let n = recording::count(memory::recording_part(&mem[..], slot));
-    let mut at = 0;
-    let mut i = 0;
-    while i < n {
-        run_row(mem, slot, at);
-        at += recording::row_size(memory::recording_part(&mem[..], slot), at);
-        i += 1;
-    }
-}
-
-// Runs the recorded command whose row begins at the offset.
-fn run_row(mem: &mut [u8], slot: usize, at: usize)
-    requires { ⌜ RowTurning (now mem) slot at ⌝ }
-    ensures { λ _. ⌜ Becomes (now (mem .entry)) (now (mem .exit))
-        (afterTurn infod3 slot (rowAction (now (mem .entry)) slot at)
-        (imageOf (now (mem .entry)))) ⌝ }
-{
-    if 4100 < recording::row_size(memory::recording_part(&mem[..], slot), at) {
-        run_long_row(mem, slot, at);
+    let recording = memory::recording_part(&mem[..], slot);
+    if recording::count(recording) <= i {
         return;
     }
+    let size = recording::row_size(recording, at);
+    let next = at + size;
+    if 4100 < size {
+        run_long_row(mem, slot, at);
+        run_recorded(mem, slot, i + 1, next);
+        return;
+    }
+    run_row(mem, slot, at);
+    run_recorded(mem, slot, i + 1, next);
+}
+
+// Runs a recorded command with a payload of at most 4,096 bytes.
+fn run_row(mem: &mut [u8], slot: usize, at: usize)
+    requires { ⌜ (RowTurning (now mem) slot at)
+        × (length (payload (rowAction (now mem) slot at)) ≤ 4096) ⌝ }
+    ensures { λ _. ⌜ RowTurned (now (mem .entry)) slot at (now (mem .exit)) ⌝ }
+{
     let mut buf = [0u8; 4096];
     run_row_with(mem, slot, at, &mut buf);
 }
@@ -114,9 +118,7 @@ fn run_row(mem: &mut [u8], slot: usize, at: usize)
 // Runs a recorded command with a payload of any length.
 fn run_long_row(mem: &mut [u8], slot: usize, at: usize)
     requires { ⌜ RowTurning (now mem) slot at ⌝ }
-    ensures { λ _. ⌜ Becomes (now (mem .entry)) (now (mem .exit))
-        (afterTurn infod3 slot (rowAction (now (mem .entry)) slot at)
-        (imageOf (now (mem .entry)))) ⌝ }
+    ensures { λ _. ⌜ RowTurned (now (mem .entry)) slot at (now (mem .exit)) ⌝ }
 {
     let mut buf = [0u8; 65535];
     run_row_with(mem, slot, at, &mut buf);
@@ -126,9 +128,7 @@ fn run_long_row(mem: &mut [u8], slot: usize, at: usize)
 fn run_row_with(mem: &mut [u8], slot: usize, at: usize, buf: &mut [u8])
     requires { ⌜ (RowTurning (now mem) slot at)
         × (length (payload (rowAction (now mem) slot at)) ≤ length (now buf)) ⌝ }
-    ensures { λ _. ⌜ Becomes (now (mem .entry)) (now (mem .exit))
-        (afterTurn infod3 slot (rowAction (now (mem .entry)) slot at)
-        (imageOf (now (mem .entry)))) ⌝ }
+    ensures { λ _. ⌜ RowTurned (now (mem .entry)) slot at (now (mem .exit)) ⌝ }
 {
     let id = recording::id_at(memory::recording_part(&mem[..], slot), at);
     let n = copy_payload(&mem[..], slot, at, buf);

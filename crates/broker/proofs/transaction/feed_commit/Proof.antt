@@ -16,6 +16,7 @@ use Rattle.broker.proofs.Turned.{becomes-open}
 use Rattle.broker.proofs.Decided.{obeys-as, obeys-nothing, obeys-stepped, step-parts, none-is, commit-off}
 use Rattle.broker.proofs.Decided.{commit-refused, commit-done}
 use Rattle.broker.proofs.Recorded.{in-used}
+use Rattle.broker.proofs.Running.{committing-start}
 use Rattle.broker.proofs.transaction.feed_commit.Statement.{statement}
 use Rattle.broker.proofs.transaction.feed_commit.Tie as tie
 
@@ -72,12 +73,7 @@ allowed c = sym (c .before .commit-refused .ensures) ∙ c .if2 .left
 
 run-recorded-requires : tie.Need-run-recorded-requires
 run-recorded-requires c κs =
-    let b = c .before in
-    record {
-      in-open = asked b .before .before .before .pre .in-open;
-      on = on (b .before .before .before);
-      allowed = allowed b;
-    }
+    committing-start (asked (c .before) .before .before .before .pre .in-open) (allowed (c .before))
 
 end-recording-requires : tie.Need-end-recording-requires
 end-recording-requires c κs =

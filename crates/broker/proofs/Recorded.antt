@@ -32,8 +32,8 @@ use Rattle.slot.specs.Region.{subscriptionsPart, clientOf, ClientRules}
 use Rattle.slot.proofs.Operations.{length-subscriptionsPart}
 use Rattle.memory.specs.Layout.{sizesOf, stride, slotStart, storePart, slotPart}
 use Rattle.memory.specs.Image.{slotIn, clientAt, imageOf}
-use Rattle.memory.specs.Contracts.{InUsed, InOpen}
-use Rattle.memory.proofs.Lent.{Lent, lent, lent-bytes, lent-client, lent-used, open-used}
+use Rattle.memory.specs.Contracts.{InUsed, InOpen, Lent}
+use Rattle.memory.proofs.Lent.{lent, lent-bytes, lent-client, lent-used, open-used}
 use Rattle.step.specs.TurnParts.{Turning, Copied}
 use Rattle.broker.specs.CommitParts.{recordedIn, commitRefusedIn, recordingFrom, rowAction, RowTurning}
 

@@ -18,7 +18,7 @@ use Rattle.queue.specs.Meaning.{kept}
 use Rattle.queue.specs.Rows.{firstLength, firstMessage}
 use Rattle.recording.specs.Command.{actionOf, commandFine}
 use Rattle.slot.specs.Image.{ClientImage, taken, owed, notified, commandsOf, withPatterns, onClient}
-use Rattle.memory.specs.Layout.{mark, sizesOf, storePart, slotsStart, slotStart, memorySize}
+use Rattle.memory.specs.Layout.{mark, sizesOf, storePart, stride, slotsStart, slotStart, memorySize}
 use Rattle.memory.specs.Image.{slotIn, isUsed, isOpen, clientAt, withStore, onSlot, imageOf, emptyImage}
 use Rattle.memory.specs.Rules.{Headed, Sound, memoryFine, KeptBehind, Becomes}
 
@@ -89,6 +89,22 @@ pub record InOpen (m : Bytes) (i : ℕ) : Type 0 where
 abbrev pub Changes : ℕ → (ClientImage → ClientImage) → Bytes → Bytes → Type 0
 Changes i f m m′ = Becomes m m′ (onSlot i (onClient f) (imageOf m))
 
+-- the bounds of slot i and the record room, as code has them
+pub record Lent (m : Bytes) (i a b r : ℕ) : Type 0 where
+  pub in-slot : InSlot m i
+  pub start : a ≡ slotStart (sizesOf m) i
+  pub end : b ≡ slotStart (sizesOf m) i + stride (sizesOf m)
+  pub room : r ≡ sizesOf m .recordRoom
+
+-- the same of some slot
+pub record Bounds (m : Bytes) (a b r : ℕ) : Type 0 where
+  pub index : ℕ
+  pub lent : Lent m index a b r
+
+-- the client of the slot that begins at a is left as f makes it
+abbrev pub ChangesAt : ℕ → (ClientImage → ClientImage) → Bytes → Bytes → Type 0
+ChangesAt a f m m′ = (i : ℕ) → i < sizesOf m .slotCount → a ≡ slotStart (sizesOf m) i → Changes i f m m′
+
 -- a message can be taken: out has room for the first one
 pub record Takable (m : Bytes) (i : ℕ) (out : Bytes) : Type 0 where
   pub in-resting : InResting m i
@@ -109,15 +125,15 @@ pub record Owable (m : Bytes) (i : ℕ) (body : Bytes) : Type 0 where
 abbrev pub Owing : ℕ → Message → Bytes → Bytes → Type 0
 Owing i x m m′ = Changes i (owed (imageOf m .sizes .queueRoom) x) m m′
 
--- a key was written: the first `key` bytes of the body
-pub record Notifiable (m : Bytes) (i : ℕ) (body : Bytes) (key : ℕ) : Type 0 where
-  pub in-slot : InSlot m i
+-- a key was written, the first `key` bytes of the body, and a slot is told of it
+pub record Notifiable (m : Bytes) (a b r : ℕ) (body : Bytes) (key : ℕ) : Type 0 where
+  pub bounds : Bounds m a b r
   pub key-within : key ≤ length body
   pub short : length body ≤ 65535
 
--- the client of slot i is told of a key that was written
+-- the client of the slot that begins at a is told of a key that was written
 abbrev pub Notifying : ℕ → Bytes → ℕ → Bytes → Bytes → Type 0
-Notifying i body key m m′ = Changes i (notified (imageOf m .sizes .queueRoom) body key) m m′
+Notifying a body key m m′ = ChangesAt a (notified (imageOf m .sizes .queueRoom) body key) m m′
 
 -- an open client records, and the command with this ID and payload can be recorded
 pub record Recordable (m : Bytes) (i id : ℕ) (p : Bytes) : Type 0 where

@@ -5,7 +5,8 @@ ghost use Rattle.message.specs.Writing.{said};
 ghost use Rattle.queue.specs.Rows.{isEmpty, firstLength};
 ghost use Rattle.slot.specs.Image.{refused, settled};
 ghost use Rattle.memory.specs.Image.{clientAt, imageOf};
-ghost use Rattle.memory.specs.Contracts.{InSlot, InResting, InOpen, Changes, Takable, Taking};
+ghost use Rattle.memory.specs.Contracts.{InResting, InOpen, Changes, Takable, Taking};
+ghost use Rattle.memory.specs.Contracts.{Bounds, ChangesAt};
 ghost use Rattle.memory.specs.Contracts.{Owable, Owing, Notifiable, Notifying};
 use crate::header::record_room;
 use crate::header::slot_end;
@@ -71,26 +72,21 @@ pub fn refuse(mem: &mut [u8], i: usize, refusal: Refusal)
     slot::refuse(&mut mem[a..b], r, refusal);
 }
 
-// Ends a step for the slot: what its client is owed is queued, or the client is shut with 102. A
-// free slot and a shut client stay as they are.
-pub fn settle(mem: &mut [u8], i: usize)
-    requires { ⌜ InSlot (now mem) i ⌝ }
-    ensures { λ _. ⌜ Changes i settled (now (mem .entry)) (now (mem .exit)) ⌝ }
+// Ends a step for the slot from a to b, in a memory with the record room r: what its client is owed
+// is queued, or the client is shut with 102. A free slot and a shut client stay as they are.
+pub fn settle(mem: &mut [u8], a: usize, b: usize, r: usize)
+    requires { ⌜ Bounds (now mem) a b r ⌝ }
+    ensures { λ _. ⌜ ChangesAt a settled (now (mem .entry)) (now (mem .exit)) ⌝ }
 {
-    let a = slot_start(&mem[..], i);
-    let b = slot_end(&mem[..], i);
-    let r = record_room(&mem[..]);
     slot::settle(&mut mem[a..b], r);
 }
 
-// Tells the slot of a key that was written, the first `key` bytes of the body: an open client with
-// a pattern for the key is owed an INFO with the body, and any other slot stays as it is.
-pub fn notify(mem: &mut [u8], i: usize, body: &[u8], key: usize)
-    requires { ⌜ Notifiable (now mem) i (now body) key ⌝ }
-    ensures { λ _. ⌜ Notifying i (now (body .entry)) key (now (mem .entry)) (now (mem .exit)) ⌝ }
+// Tells the slot from a to b, in a memory with the record room r, of a key that was written, the
+// first `key` bytes of the body: an open client with a pattern for the key is owed an INFO with the
+// body, and any other slot stays as it is.
+pub fn notify(mem: &mut [u8], a: usize, b: usize, r: usize, body: &[u8], key: usize)
+    requires { ⌜ Notifiable (now mem) a b r (now body) key ⌝ }
+    ensures { λ _. ⌜ Notifying a (now (body .entry)) key (now (mem .entry)) (now (mem .exit)) ⌝ }
 {
-    let a = slot_start(&mem[..], i);
-    let b = slot_end(&mem[..], i);
-    let r = record_room(&mem[..]);
     slot::notify(&mut mem[a..b], r, body, key);
 }

@@ -189,10 +189,15 @@ fn notify_all(mem: &mut [u8], body: &[u8], key: usize)
     requires { ⌜ (Sound (now mem)) × (key ≤ length (now body)) × (length (now body) ≤ 65535) ⌝ }
     ensures { λ _. ⌜ NotifyingAll (now (body .entry)) key (now (mem .entry)) (now (mem .exit)) ⌝ }
 {
+    let step = memory::slot_size(&mem[..]);
     let n = memory::slot_count(&mem[..]);
+    let r = memory::record_room(&mem[..]);
+    let mut at = memory::store_end(&mem[..]);
     let mut i = 0;
     while i < n {
-        memory::notify(mem, i, body, key);
+        let end = at + step;
+        memory::notify(mem, at, end, r, body, key);
+        at = end;
         i += 1;
     }
 }
@@ -203,10 +208,15 @@ pub fn settle_all(mem: &mut [u8])
     ensures { λ _. ⌜ Becomes (now (mem .entry)) (now (mem .exit))
         (settledImage (imageOf (now (mem .entry)))) ⌝ }
 {
+    let step = memory::slot_size(&mem[..]);
     let n = memory::slot_count(&mem[..]);
+    let r = memory::record_room(&mem[..]);
+    let mut at = memory::store_end(&mem[..]);
     let mut i = 0;
     while i < n {
-        memory::settle(mem, i);
+        let end = at + step;
+        memory::settle(mem, at, end, r);
+        at = end;
         i += 1;
     }
 }

@@ -1,9 +1,9 @@
 -- `memory::patterns::add_pattern` meets its contract.
-use Rattle.memory.specs.Contracts.{patternAdded}
+use Rattle.memory.specs.Contracts.{patternAdded, Lent}
 use Rattle.memory.specs.Image.{slotIn, imageOf}
 use borrow.Author.Needs.{needs}
 use Rattle.memory.specs.Layout.{sizesOf}
-use Rattle.memory.proofs.Lent.{Lent, up-to-slot, lent-within, lent, open-used, lent-open}
+use Rattle.memory.proofs.Lent.{up-to-slot, lent-within, lent, open-used, lent-open}
 use Rattle.memory.proofs.Returned.{lent-addable, lent-changes}
 use Rattle.memory.proofs.patterns.add_pattern.Statement.{statement}
 use Rattle.memory.proofs.patterns.add_pattern.Tie as tie

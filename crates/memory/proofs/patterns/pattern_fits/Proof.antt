@@ -7,7 +7,8 @@ use Rattle.server.specs.Patterns.{addPattern}
 use Rattle.memory.specs.Image.{slotIn, imageOf}
 use borrow.Author.Needs.{needs}
 use Rattle.memory.specs.Layout.{sizesOf}
-use Rattle.memory.proofs.Lent.{Lent, up-to-slot, lent-within, lent, open-used, lent-open, lent-client}
+use Rattle.memory.specs.Contracts.{Lent}
+use Rattle.memory.proofs.Lent.{up-to-slot, lent-within, lent, open-used, lent-open, lent-client}
 use Rattle.memory.proofs.patterns.pattern_fits.Statement.{statement}
 use Rattle.memory.proofs.patterns.pattern_fits.Tie as tie
 

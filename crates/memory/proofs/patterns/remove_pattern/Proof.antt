@@ -1,9 +1,9 @@
 -- `memory::patterns::remove_pattern` meets its contract.
-use Rattle.memory.specs.Contracts.{patternRemoved}
+use Rattle.memory.specs.Contracts.{patternRemoved, Lent}
 use Rattle.memory.specs.Image.{slotIn, imageOf}
 use borrow.Author.Needs.{needs}
 use Rattle.memory.specs.Layout.{sizesOf}
-use Rattle.memory.proofs.Lent.{Lent, up-to-slot, lent-within, lent, open-used, lent-open}
+use Rattle.memory.proofs.Lent.{up-to-slot, lent-within, lent, open-used, lent-open}
 use Rattle.memory.proofs.Returned.{lent-changes}
 use Rattle.memory.proofs.patterns.remove_pattern.Statement.{statement}
 use Rattle.memory.proofs.patterns.remove_pattern.Tie as tie

@@ -3,7 +3,8 @@ use mathlib.Core.Path.{ap, _∙_}
 use Rattle.slot.specs.Image.{ClientImage}
 use Rattle.queue.specs.Rows.{firstLength}
 use borrow.Author.Needs.{needs}
-use Rattle.memory.proofs.Lent.{Lent, up-to-slot, lent-within, lent-resting, lent-client}
+use Rattle.memory.specs.Contracts.{Lent}
+use Rattle.memory.proofs.Lent.{up-to-slot, lent-within, lent-resting, lent-client}
 use Rattle.memory.proofs.queues.first_length.Statement.{statement}
 use Rattle.memory.proofs.queues.first_length.Tie as tie
 

@@ -4,7 +4,8 @@ use Rattle.slot.specs.Image.{ClientImage}
 use mathlib.Core.Bool.{not}
 use Rattle.queue.specs.Rows.{isEmpty}
 use borrow.Author.Needs.{needs}
-use Rattle.memory.proofs.Lent.{Lent, up-to-slot, lent-within, lent-resting, lent-client}
+use Rattle.memory.specs.Contracts.{Lent}
+use Rattle.memory.proofs.Lent.{up-to-slot, lent-within, lent-resting, lent-client}
 use Rattle.memory.proofs.queues.has_message.Statement.{statement}
 use Rattle.memory.proofs.queues.has_message.Tie as tie
 

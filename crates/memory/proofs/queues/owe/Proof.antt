@@ -2,7 +2,8 @@
 use Rattle.message.specs.Writing.{said}
 use Rattle.memory.specs.Image.{slotIn, imageOf}
 use borrow.Author.Needs.{needs}
-use Rattle.memory.proofs.Lent.{Lent, up-to-slot, lent-within, open-used, lent-open}
+use Rattle.memory.specs.Contracts.{Lent}
+use Rattle.memory.proofs.Lent.{up-to-slot, lent-within, open-used, lent-open}
 use Rattle.memory.proofs.Returned.{lent-owed}
 use Rattle.memory.proofs.queues.owe.Statement.{statement}
 use Rattle.memory.proofs.queues.owe.Tie as tie

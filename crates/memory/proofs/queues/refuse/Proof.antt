@@ -2,7 +2,8 @@
 use Rattle.slot.specs.Image.{refused}
 use Rattle.memory.specs.Image.{slotIn, imageOf}
 use borrow.Author.Needs.{needs}
-use Rattle.memory.proofs.Lent.{Lent, up-to-slot, lent-within, open-used, lent-open}
+use Rattle.memory.specs.Contracts.{Lent}
+use Rattle.memory.proofs.Lent.{up-to-slot, lent-within, open-used, lent-open}
 use Rattle.memory.proofs.Returned.{lent-changes}
 use Rattle.memory.proofs.queues.refuse.Statement.{statement}
 use Rattle.memory.proofs.queues.refuse.Tie as tie

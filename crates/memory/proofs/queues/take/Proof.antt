@@ -1,6 +1,7 @@
 -- `memory::queues::take` meets its contract.
 use borrow.Author.Needs.{needs}
-use Rattle.memory.proofs.Lent.{Lent, up-to-slot, lent-within, lent-resting, lent-client}
+use Rattle.memory.specs.Contracts.{Lent}
+use Rattle.memory.proofs.Lent.{up-to-slot, lent-within, lent-resting, lent-client}
 use Rattle.memory.proofs.Returned.{lent-taking}
 use Rattle.memory.proofs.queues.take.Statement.{statement}
 use Rattle.memory.proofs.queues.take.Tie as tie

@@ -4,7 +4,8 @@ use mathlib.Core.Option.{some}
 use Rattle.slot.specs.Image.{withRecording}
 use Rattle.memory.specs.Image.{slotIn, imageOf}
 use borrow.Author.Needs.{needs}
-use Rattle.memory.proofs.Lent.{Lent, up-to-slot, lent-within, open-used, lent-open}
+use Rattle.memory.specs.Contracts.{Lent}
+use Rattle.memory.proofs.Lent.{up-to-slot, lent-within, open-used, lent-open}
 use Rattle.memory.proofs.Returned.{lent-changes}
 use Rattle.memory.proofs.recordings.begin.Statement.{statement}
 use Rattle.memory.proofs.recordings.begin.Tie as tie

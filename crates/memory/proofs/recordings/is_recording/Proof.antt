@@ -3,7 +3,8 @@ use mathlib.Core.Path.{ap, _∙_}
 use Rattle.slot.specs.Image.{ClientImage}
 use Rattle.octets.specs.Items.{isSome}
 use borrow.Author.Needs.{needs}
-use Rattle.memory.proofs.Lent.{Lent, up-to-slot, lent-within, lent-used, lent-client}
+use Rattle.memory.specs.Contracts.{Lent}
+use Rattle.memory.proofs.Lent.{up-to-slot, lent-within, lent-used, lent-client}
 use Rattle.memory.proofs.recordings.is_recording.Statement.{statement}
 use Rattle.memory.proofs.recordings.is_recording.Tie as tie
 

@@ -3,7 +3,8 @@ use Rattle.recording.specs.Command.{actionOf}
 use Rattle.slot.specs.Image.{recorded}
 use Rattle.memory.specs.Image.{slotIn, imageOf}
 use borrow.Author.Needs.{needs}
-use Rattle.memory.proofs.Lent.{Lent, up-to-slot, lent-within, open-used}
+use Rattle.memory.specs.Contracts.{Lent}
+use Rattle.memory.proofs.Lent.{up-to-slot, lent-within, open-used}
 use Rattle.memory.proofs.Returned.{lent-recordable, lent-changes}
 use Rattle.memory.proofs.recordings.record.Statement.{statement}
 use Rattle.memory.proofs.recordings.record.Tie as tie

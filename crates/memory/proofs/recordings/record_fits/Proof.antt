@@ -1,6 +1,7 @@
 -- `memory::recordings::record_fits` meets its contract.
 use borrow.Author.Needs.{needs}
-use Rattle.memory.proofs.Lent.{Lent, up-to-slot, lent-within, lent-used}
+use Rattle.memory.specs.Contracts.{Lent}
+use Rattle.memory.proofs.Lent.{up-to-slot, lent-within, lent-used}
 use Rattle.memory.proofs.Returned.{lent-fits}
 use Rattle.memory.proofs.recordings.record_fits.Statement.{statement}
 use Rattle.memory.proofs.recordings.record_fits.Tie as tie

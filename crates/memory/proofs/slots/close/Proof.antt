@@ -3,7 +3,8 @@ use mathlib.Core.Path.{refl}
 use Rattle.slot.specs.Image.{free}
 use borrow.Author.Needs.{needs}
 use Rattle.memory.specs.Layout.{sizesOf}
-use Rattle.memory.proofs.Lent.{Lent, up-to-slot, lent-within, lent}
+use Rattle.memory.specs.Contracts.{Lent}
+use Rattle.memory.proofs.Lent.{up-to-slot, lent-within, lent}
 use Rattle.memory.proofs.Returned.{lent-becomes}
 use Rattle.memory.proofs.slots.close.Statement.{statement}
 use Rattle.memory.proofs.slots.close.Tie as tie

@@ -2,7 +2,8 @@
 use Rattle.slot.specs.Image.{withKind}
 use borrow.Author.Needs.{needs}
 use Rattle.memory.specs.Layout.{sizesOf}
-use Rattle.memory.proofs.Lent.{Lent, up-to-slot, lent-within, lent, lent-used}
+use Rattle.memory.specs.Contracts.{Lent}
+use Rattle.memory.proofs.Lent.{up-to-slot, lent-within, lent, lent-used}
 use Rattle.memory.proofs.Returned.{lent-changes}
 use Rattle.memory.proofs.slots.fix_kind.Statement.{statement}
 use Rattle.memory.proofs.slots.fix_kind.Tie as tie

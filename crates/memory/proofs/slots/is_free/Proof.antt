@@ -2,7 +2,8 @@
 use mathlib.Core.Path.{_∙_}
 use borrow.Author.Needs.{needs}
 use Rattle.memory.specs.Layout.{sizesOf}
-use Rattle.memory.proofs.Lent.{Lent, up-to-slot, lent-within, lent, lent-free}
+use Rattle.memory.specs.Contracts.{Lent}
+use Rattle.memory.proofs.Lent.{up-to-slot, lent-within, lent, lent-free}
 use Rattle.memory.proofs.slots.is_free.Statement.{statement}
 use Rattle.memory.proofs.slots.is_free.Tie as tie
 

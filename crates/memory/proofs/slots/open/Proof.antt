@@ -2,7 +2,8 @@
 use mathlib.Core.Path.{refl}
 use Rattle.slot.specs.Image.{used, opened}
 use borrow.Author.Needs.{needs}
-use Rattle.memory.proofs.Lent.{Lent, up-to-slot, lent-within, lent-sized}
+use Rattle.memory.specs.Contracts.{Lent}
+use Rattle.memory.proofs.Lent.{up-to-slot, lent-within, lent-sized}
 use Rattle.memory.proofs.Returned.{lent-becomes}
 use Rattle.memory.proofs.slots.open.Statement.{statement}
 use Rattle.memory.proofs.slots.open.Tie as tie

@@ -6,7 +6,7 @@
  * address. Two calls that run at the same time must not be lent the same memory. The slices of one
  * call must not overlap. A feed needs up to 512 KiB of stack, every other call less than 1 KiB.
  *
- * Every function takes any argument and ends with one of these answers:
+ * Every function takes any argument. Every call ends with one of these answers:
  *
  *     0  done
  *     1  feed: more bytes are wanted; nothing is consumed

@@ -4,7 +4,7 @@ ghost use mathlib.Core.Path.{_≡_};
 ghost use mathlib.Core.Bool.{true, false};
 ghost use Prim.Native.Nat.{_≤_};
 ghost use lib.ListN.{length};
-ghost use Rattle.octets.specs.Items.{isSome};
+ghost use Rattle.octets.specs.Options.{isSome};
 ghost use Rattle.framing.specs.Framing.{kindOf};
 ghost use Rattle.command.specs.Meaning.{meant};
 ghost use Rattle.wire.specs.Post.{roomIn};

@@ -4,7 +4,7 @@ ghost use mathlib.Core.Path.{_≡_};
 ghost use mathlib.Core.Bool.{true};
 ghost use Prim.Native.Nat.{_≤_};
 ghost use lib.ListN.{length, drop};
-ghost use Rattle.octets.specs.Items.{isSome};
+ghost use Rattle.octets.specs.Options.{isSome};
 ghost use Rattle.protocol.specs.Terms.{begin, commit, payload};
 ghost use Rattle.recording.specs.Command.{commandFine};
 ghost use Rattle.infod3.specs.Infod3.{infod3};

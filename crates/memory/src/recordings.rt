@@ -2,7 +2,7 @@
 ghost use mathlib.Core.Path.{_≡_};
 ghost use mathlib.Core.List.{[]};
 ghost use mathlib.Core.Option.{some, none};
-ghost use Rattle.octets.specs.Items.{isSome};
+ghost use Rattle.octets.specs.Options.{isSome};
 ghost use Rattle.recording.specs.Command.{actionOf};
 ghost use Rattle.slot.specs.Image.{withRecording, recorded};
 ghost use Rattle.slot.specs.Contracts.{Fits};

@@ -3,5 +3,5 @@ pub mod Part
 pub mod Number
 pub mod Order
 pub mod Table
-pub mod Items
+pub mod Options
 mod Examples

@@ -10,7 +10,7 @@ use lib.Dec.{eqb, leb}
 use lib.ListN.{length, length-append}
 use borrow.Author.Tests.{leb-true, leb-false, le-leb, lt-leb}
 use Rattle.octets.specs.Octets.{Bytes}
-use Rattle.octets.specs.Items.{isSome}
+use Rattle.octets.specs.Options.{isSome}
 use Rattle.octets.proofs.Parts.{length-part}
 use Rattle.protocol.specs.Terms.{Action, payload}
 use Rattle.server.specs.State.{recordingCharge, recordingFits}

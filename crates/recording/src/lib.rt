@@ -18,7 +18,7 @@ ghost use mathlib.Core.Bool.{Bool, true};
 ghost use mathlib.Core.Option.{Option, some, none};
 ghost use Prim.Native.Nat.{ℕ, _+_, _≤_};
 ghost use lib.ListN.{length};
-ghost use Rattle.octets.specs.Items.{isSome};
+ghost use Rattle.octets.specs.Options.{isSome};
 ghost use Rattle.recording.specs.Region.{sized, stateFine, recorded};
 ghost use Rattle.recording.specs.Region.{recordingOf, recordingFine};
 ghost use Rattle.recording.specs.Contracts.{Becomes, headed, extended, Used, Fits, Addable};

@@ -1,5 +1,5 @@
--- What the five calls do to the memory's image and give back: the simple server, with each queue as the bytes that the
--- memory holds. Every decision but take's is the simple server's own: it does not look at a queue.
+-- What open, feed, take and close do to the memory's image and give back: the simple server, with each queue as the
+-- bytes that the memory holds. Every decision but take's is the simple server's own: it does not look at a queue.
 use Prim.Native.Nat.{ℕ, _+_}
 use mathlib.Core.List.{List, [], _∷_, _++_, map}
 use mathlib.Core.Bool.{Bool, true, false, cond}

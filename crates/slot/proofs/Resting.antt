@@ -10,7 +10,7 @@ use lib.ListN.{length, take, drop}
 use borrow.Author.Tests.{eq-eqb, ne-eqb, eqb-true, eqb-false, le-leb, leb-true}
 use Rattle.octets.specs.Octets.{Bytes}
 use Rattle.octets.specs.Part.{part}
-use Rattle.octets.specs.Items.{isSome}
+use Rattle.octets.specs.Options.{isSome}
 use Rattle.octets.proofs.Parts.{length-part}
 use Rattle.protocol.specs.Terms.{Action, Message, Protocol}
 use Rattle.protocol.specs.declared.Refusal.the-variants.{Room}

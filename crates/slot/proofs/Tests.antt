@@ -9,7 +9,7 @@ use lib.Dec.{eqb, leb}
 use lib.ListN.{length}
 use borrow.Author.Tests.{eq-eqb, ne-eqb, eqb-true, eqb-false, le-leb, leb-true}
 use Rattle.octets.specs.Octets.{Bytes}
-use Rattle.octets.specs.Items.{isSome}
+use Rattle.octets.specs.Options.{isSome}
 use Rattle.protocol.specs.Terms.{Action}
 use Rattle.server.specs.Patterns.{Patterns}
 use Rattle.queue.specs.Meaning.{kept}

@@ -8,7 +8,7 @@ use lib.Dec.{leb}
 use lib.ListN.{length}
 use lib.Seq.{sets}
 use Rattle.octets.specs.Octets.{Bytes}
-use Rattle.octets.specs.Items.{isSome}
+use Rattle.octets.specs.Options.{isSome}
 use Rattle.protocol.specs.Terms.{Action, payload}
 use Rattle.server.specs.Patterns.{addPattern, removePattern}
 use Rattle.server.specs.State.{recordingFits}

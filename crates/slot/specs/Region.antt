@@ -11,7 +11,7 @@ use lib.Dec.{eqb, leb}
 use lib.ListN.{length, drop, getD}
 use Rattle.octets.specs.Octets.{Bytes}
 use Rattle.octets.specs.Part.{part}
-use Rattle.octets.specs.Items.{isSome}
+use Rattle.octets.specs.Options.{isSome}
 use Rattle.protocol.specs.declared.Kind.{Kind}
 use Rattle.protocol.specs.declared.Kind.the-variants.{Packets, Stream, Framed, Text}
 use Rattle.queue.specs.Meaning.{Queue}

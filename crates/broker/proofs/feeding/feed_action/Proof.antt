@@ -5,7 +5,7 @@ use mathlib.Core.Bool.{true, false}
 use Prim.Native.Nat.{ℕ}
 use lib.ListN.{length}
 use borrow.Author.Needs.{needs}
-use Rattle.octets.specs.Items.{isSome}
+use Rattle.octets.specs.Options.{isSome}
 use Rattle.recording.specs.Command.{actionOf, commandFine}
 use Rattle.memory.specs.Image.{clientAt, imageOf}
 use Rattle.broker.specs.FeedParts.{actionDecision}

@@ -7,7 +7,7 @@ use Prim.Native.Nat.{ℕ}
 use borrow.Author.Needs.{needs}
 use borrow.Author.Tests.{not-true, not-false}
 use Rattle.octets.specs.Octets.{Bytes}
-use Rattle.octets.specs.Items.{isSome}
+use Rattle.octets.specs.Options.{isSome}
 use Rattle.protocol.specs.Terms.{Action}
 use Rattle.infod3.specs.Infod3.{infod3}
 use Rattle.memory.specs.Image.{clientAt, imageOf}

@@ -1,7 +1,7 @@
 -- `memory::recordings::is_recording` meets its contract.
 use mathlib.Core.Path.{ap, _∙_}
 use Rattle.slot.specs.Image.{ClientImage}
-use Rattle.octets.specs.Items.{isSome}
+use Rattle.octets.specs.Options.{isSome}
 use borrow.Author.Needs.{needs}
 use Rattle.memory.specs.Contracts.{Lent}
 use Rattle.memory.proofs.Lent.{up-to-slot, lent-within, lent-used, lent-client}

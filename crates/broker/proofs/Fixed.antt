@@ -13,6 +13,7 @@ use Rattle.wire.specs.Received.{reading}
 use Rattle.server.specs.Events.{Event, consumed}
 use Rattle.server.specs.Decision.{Decision, done}
 use Rattle.server.specs.Feed.{decideReading}
+use Rattle.store.specs.Index.{Indexes}
 use Rattle.slot.specs.Image.{ClientImage, SlotImage, free, used, withKind, withRecording, onClient}
 use Rattle.memory.specs.Layout.{sizesOf}
 use Rattle.memory.specs.Image.{Image, slotIn, isUsed, clientIn, clientAt, imageOf, withSlots, onSlot}
@@ -36,6 +37,12 @@ recording-kept : (k : Kind) (x : SlotImage)
 unfolding onClient clientIn withKind withRecording
 recording-kept k free = refl
 recording-kept k (used c) = refl
+
+-- a client's kind is fixed, and an index of the store stays one
+pub fixed-indexed : {m m₁ : Bytes} (i : ℕ) (k : Kind) {index : List ℕ} → Changes i (withKind k) m m₁
+    → Indexes (imageOf m .store) index → Indexes (imageOf m₁ .store) index
+unfolding onSlot withSlots
+fixed-indexed i k h x = rw (h .means) x
 
 -- the client of slot i in a memory between calls
 module _ {m : Bytes} {i : ℕ} (s : Speaking m i) where

@@ -109,7 +109,8 @@ pub fn feed(mem: &mut [u8], slot: usize, input: &[u8]) -> Reply
     ensures { λ r. ⌜ Serves infod3 (feeds slot (now (input .entry))) (now (mem .entry))
         (r .answer) (r .count) (now (mem .exit)) ⌝ }
 {
-    if !memory::is_fine(&mem[..]) {
+    let mut index = [0usize; 32];
+    if !memory::is_fine_indexing(&mem[..], &mut index) {
         return unaltered(7);
     }
     if is_vacant(&mem[..], slot) {
@@ -123,7 +124,7 @@ pub fn feed(mem: &mut [u8], slot: usize, input: &[u8]) -> Reply
     if is_partial(kind, m) {
         return unaltered(1);
     }
-    feeding::feed_message(mem, slot, kind, m)
+    feeding::feed_message(mem, slot, kind, m, &mut index)
 }
 
 // Takes the first message of a client's queue: it is written at the front of out and removed, and

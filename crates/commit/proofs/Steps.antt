@@ -1,6 +1,6 @@
 -- The other commands tried out, and the walk over all of a recording.
 use mathlib.Core.Path.{_≡_, refl, sym, ap, _∙_}
-use mathlib.Core.List.{[], _∷_, _++_}
+use mathlib.Core.List.{List, [], _∷_, _++_}
 use mathlib.Core.Bool.{Bool, true, false, not}
 use Prim.Native.Nat.{ℕ, suc, _+_, _-_, _≤_, _<_}
 use native.Mathlib.Numerals.{add-one}
@@ -162,10 +162,15 @@ pub sub-short : (id n : ℕ) → id ≡ 1 → commandFine id n ≡ true → n �
 unfolding commandFine
 sub-short id n e h = leb-true n 255 (rw e at h)
 
-pub row-place : (st r : Bytes) (at : ℕ) → storeFine st ≡ true → RowAt r at → Place st r at
-row-place st r at f h =
-    let m = row-here r at h in
-    record { store-fine = f; until = record { fine = h .fine; within = omega (arith, m .within) } }
+pub turn-place : {st : Bytes} {index : List ℕ} {r : Bytes} {at : ℕ} {q : Bytes} {t : Tally}
+    → Turn st index r at q t → Place st index r at
+turn-place g =
+    let m = row-here _ _ (g .row) in
+    record {
+      store-fine = g .store-fine;
+      indexed = g .indexed;
+      until = record { fine = g .row .fine; within = omega (arith, m .within) };
+    }
 
 -- ---- the store at a turn
 
@@ -211,20 +216,21 @@ pub record Trying (st r q₀ : Bytes) (t : Tally) (at i : ℕ) (q : Bytes) : Typ
   pub rest : refusesAny (roomOf st) (recorded r) (storeOf st) (patternsOf q₀)
       ≡ refusesAny (roomOf st) (drop i (recorded r)) (storeBefore st r at) (patternsOf q)
 
-pub try-start : (st r q : Bytes) (t : Tally) → Tried st r q → TallyOf (roomOf st) (storeOf st) t
-    → Trying st r q t 0 0 q
+pub try-start : (st : Bytes) {index : List ℕ} (r q : Bytes) (t : Tally) → Tried st index r q
+    → TallyOf (roomOf st) (storeOf st) t → Trying st r q t 0 0 q
 unfolding storeBefore storeAfterAll
 try-start st r q t h g =
     let w = walk-start r (h .recording-fine) in
     let e : earlier r 0 ≡ [] = walk-earlier r 0 0 w in
     record { walk = w; tally = rw e g; patterns-fine = h .patterns-fine; rest = rw e }
 
-module _ (st r q₀ : Bytes) (t : Tally) (at i : ℕ) (q : Bytes) (f : storeFine st ≡ true)
+module _ (st : Bytes) {index : List ℕ} (r q₀ : Bytes) (t : Tally) (at i : ℕ) (q : Bytes) (f : Tried st index r q₀)
     (l : i < length (recorded r)) (h : Trying st r q₀ t at i q) where
-  pub try-turn : Turn st r at q t
+  pub try-turn : Turn st index r at q t
   try-turn =
       record {
-        store-fine = f;
+        store-fine = f .store-fine;
+        indexed = f .indexed;
         row = walk-row r at i (h .walk) l;
         patterns-fine = h .patterns-fine;
         tally = h .tally;

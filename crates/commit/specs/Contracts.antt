@@ -3,6 +3,7 @@
 -- WRITE or SUB would be refused at its turn, none is done and the answer is 102."
 use Prim.Native.Nat.{ℕ, _≤_}
 use mathlib.Core.Path.{_≡_}
+use mathlib.Core.List.{List}
 use mathlib.Core.Bool.{Bool, true, false}
 use lib.ListN.{length, take}
 use Rattle.octets.specs.Octets.{Bytes, firstNul}
@@ -15,6 +16,7 @@ use Rattle.recording.specs.Region.{recordingFine}
 use Rattle.recording.specs.Turn.{earlier}
 use Rattle.recording.specs.Contracts.{RowAt, Until}
 use Rattle.store.specs.Region.{roomOf, storeFine, storeOf}
+use Rattle.store.specs.Index.{Indexes}
 use Rattle.store.specs.Operation.{charge}
 use Rattle.subscriptions.specs.Region.{patternsOf, subscriptionsFine}
 use Rattle.commit.specs.declared.Tally.{Tally}
@@ -26,15 +28,17 @@ storeBefore st r at = storeAfterAll (earlier r at) (storeOf st)
 
 -- ---- what is asked
 
--- a store, a recording and a client's subscriptions
-pub record Tried (st r q : Bytes) : Type 0 where
+-- a store with an index of it, a recording and a client's subscriptions
+pub record Tried (st : Bytes) (index : List ℕ) (r q : Bytes) : Type 0 where
   pub store-fine : storeFine st ≡ true
+  pub indexed : Indexes (storeOf st) index
   pub recording-fine : recordingFine r ≡ true
   pub patterns-fine : subscriptionsFine q ≡ true
 
--- a store and an offset of a recording
-pub record Place (st r : Bytes) (at : ℕ) : Type 0 where
+-- a store with an index of it, and an offset of a recording
+pub record Place (st : Bytes) (index : List ℕ) (r : Bytes) (at : ℕ) : Type 0 where
   pub store-fine : storeFine st ≡ true
+  pub indexed : Indexes (storeOf st) index
   pub until : Until r at
 
 -- a store and a payload that a WRITE can have; its key has n bytes, and the key's row `old`, 0 where it is absent
@@ -44,9 +48,9 @@ pub record Writing (st p : Bytes) (n old : ℕ) : Type 0 where
   pub key : n ≡ firstNul p
   pub row : old ≡ charge (take n p) (lookup (take n p) (storeOf st))
 
--- such a payload at an offset of a recording, with the tally of the store there
-pub record WriteTurn (st r : Bytes) (at : ℕ) (p : Bytes) (t : Tally) : Type 0 where
-  pub place : Place st r at
+-- such a payload at an offset of a recording, with an index of the store and the tally of the store there
+pub record WriteTurn (st : Bytes) (index : List ℕ) (r : Bytes) (at : ℕ) (p : Bytes) (t : Tally) : Type 0 where
+  pub place : Place st index r at
   pub short : length p ≤ 65535
   pub tally : TallyOf (roomOf st) (storeBefore st r at) t
 
@@ -56,9 +60,11 @@ pub record PatternTurn (q : Bytes) (id : ℕ) (p : Bytes) : Type 0 where
   pub known : commandFine id (length p) ≡ true
   pub other : id ≡ 4 → ⊥
 
--- a command's row at an offset of a recording, with the tally of the store there and a client's subscriptions
-pub record Turn (st r : Bytes) (at : ℕ) (q : Bytes) (t : Tally) : Type 0 where
+-- a command's row at an offset of a recording, with an index of the store, the tally of the store there and a client's
+-- subscriptions
+pub record Turn (st : Bytes) (index : List ℕ) (r : Bytes) (at : ℕ) (q : Bytes) (t : Tally) : Type 0 where
   pub store-fine : storeFine st ≡ true
+  pub indexed : Indexes (storeOf st) index
   pub row : RowAt r at
   pub patterns-fine : subscriptionsFine q ≡ true
   pub tally : TallyOf (roomOf st) (storeBefore st r at) t

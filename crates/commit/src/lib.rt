@@ -1,7 +1,9 @@
-// Whether a COMMIT, a WRITE or a SUB is refused with 102, decided over shared slices before anything
-// changes. A COMMIT is tried out: its commands are gone through in order, with a tally of what the
-// store would charge and hold, and with a copy of the client's subscriptions. Internal layer: what
-// a function requires is its callers' to show.
+// Whether a COMMIT, a WRITE or a SUB is refused with 102, decided over shared slices before
+// anything changes. A COMMIT is tried out: its commands are gone through in order, with a tally of
+// what the store would charge and hold, and with a copy of the client's subscriptions. `index` is
+// an index of the store: offsets of some of its rows, from which the search for a key may begin.
+// The store does not change while a COMMIT is tried out, so the index is only read. Internal layer:
+// what a function requires is its callers' to show.
 mod exchange;
 
 use exchange::exchanged;
@@ -30,13 +32,19 @@ struct Tally {
 }
 
 // The body that the key has at the turn of the command at the offset, a part of the recording or of
-// the store.
-fn body_at_turn<'a>(store: &'a [u8], recording: &'a [u8], at: usize, key: &[u8]) -> &'a [u8]
-    requires { ⌜ Place (now store) (now recording) at ⌝ }
+// the store. The store's index shortens the search for the key.
+fn body_at_turn<'a>(
+    store: &'a [u8],
+    index: &[usize],
+    recording: &'a [u8],
+    at: usize,
+    key: &[u8],
+) -> &'a [u8]
+    requires { ⌜ Place (now store) (now index) (now recording) at ⌝ }
     ensures { λ b. ⌜ valueIn (now (key .entry)) (now b) ≡ lookup (now (key .entry))
         (storeBefore (now (store .entry)) (now (recording .entry)) at) ⌝ }
 {
-    let stored = store::look_up(store, key);
+    let stored = store::look_up(store, index, key);
     recording::turn_finds(recording, at, stored, key)
 }
 
@@ -44,17 +52,18 @@ fn body_at_turn<'a>(store: &'a [u8], recording: &'a [u8], at: usize, key: &[u8])
 // limit.
 fn write_turn<'a>(
     store: &'a [u8],
+    index: &[usize],
     recording: &'a [u8],
     at: usize,
     payload: &[u8],
     t: Tally,
 ) -> Tally
-    requires { ⌜ WriteTurn (now store) (now recording) at (now payload) t ⌝ }
+    requires { ⌜ WriteTurn (now store) (now index) (now recording) at (now payload) t ⌝ }
     ensures { λ r. ⌜ WriteTaken (roomOf (now (store .entry))) (now (payload .entry))
         (storeBefore (now (store .entry)) (now (recording .entry)) at) r ⌝ }
 {
     let key = octets::first_nul(payload);
-    let body = body_at_turn(store, recording, at, &payload[..key]);
+    let body = body_at_turn(store, index, recording, at, &payload[..key]);
     exchanged(store.len() - 8, t, key, body.len(), payload.len())
 }
 
@@ -95,8 +104,15 @@ fn pattern_turn(patterns: &mut [u8], id: u8, pattern: &[u8], t: Tally) -> Tally
 }
 
 // The tally after the command at the offset.
-fn turn<'a>(store: &'a [u8], recording: &'a [u8], at: usize, patterns: &mut [u8], t: Tally) -> Tally
-    requires { ⌜ Turn (now store) (now recording) at (now patterns) t ⌝ }
+fn turn<'a>(
+    store: &'a [u8],
+    index: &[usize],
+    recording: &'a [u8],
+    at: usize,
+    patterns: &mut [u8],
+    t: Tally,
+) -> Tally
+    requires { ⌜ Turn (now store) (now index) (now recording) at (now patterns) t ⌝ }
     ensures { λ r. ⌜ Taken (roomOf (now (store .entry)))
         (commandAt (drop at (rowsOf (now (recording .entry)))))
         (storeBefore (now (store .entry)) (now (recording .entry)) at)
@@ -105,15 +121,20 @@ fn turn<'a>(store: &'a [u8], recording: &'a [u8], at: usize, patterns: &mut [u8]
     let id = recording::id_at(recording, at);
     let payload = recording::payload_at(recording, at);
     if id == 4 {
-        return write_turn(store, recording, at, payload, t);
+        return write_turn(store, index, recording, at, payload, t);
     }
     pattern_turn(patterns, id, payload, t)
 }
 
 // Whether a COMMIT of the recording is refused: whether any of its commands would be at its turn.
 // `patterns` is a copy of the client's subscriptions; what it holds afterwards is open.
-pub fn refuses_any<'a>(store: &'a [u8], recording: &'a [u8], patterns: &mut [u8]) -> bool
-    requires { ⌜ Tried (now store) (now recording) (now patterns) ⌝ }
+pub fn refuses_any<'a>(
+    store: &'a [u8],
+    index: &[usize],
+    recording: &'a [u8],
+    patterns: &mut [u8],
+) -> bool
+    requires { ⌜ Tried (now store) (now index) (now recording) (now patterns) ⌝ }
     ensures { λ b. ⌜ b ≡ refusesAny
         (roomOf (now (store .entry))) (recorded (now (recording .entry)))
         (storeOf (now (store .entry))) (patternsOf (now (patterns .entry))) ⌝ }
@@ -127,7 +148,7 @@ pub fn refuses_any<'a>(store: &'a [u8], recording: &'a [u8], patterns: &mut [u8]
     let mut at = 0;
     let mut i = 0;
     while i < n {
-        t = turn(store, recording, at, patterns, t);
+        t = turn(store, index, recording, at, patterns, t);
         if t.refused {
             return true;
         }

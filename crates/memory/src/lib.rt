@@ -13,6 +13,7 @@ mod setting;
 mod slots;
 
 pub use check::is_fine;
+pub use check::is_fine_indexing;
 pub use entries::delete_at;
 pub use entries::write_at;
 pub use header::Sizes;

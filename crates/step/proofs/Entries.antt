@@ -1,12 +1,11 @@
 -- Entries of a memory's store by the offsets of their rows, and the messages made of their bodies.
 use mathlib.Core.Path.{_≡_, refl, sym, ap, _∙_}
-use mathlib.Core.List.{[], _∷_, _++_, append-nil}
+use mathlib.Core.List.{_∷_, _++_, append-nil}
 use mathlib.Core.Bool.{true}
 use mathlib.Core.Option.{Option, some, none}
 use Prim.Native.Nat.{ℕ, _+_, _≤_, _<_}
-use native.Mathlib.Nat.{add-zero, zero-add}
 use native.Mathlib.Omega.{arith}
-use lib.ListN.{length, drop, length-append}
+use lib.ListN.{length, length-append}
 use lib.Seq.{sets}
 use Rattle.octets.specs.Octets.{Bytes}
 use Rattle.octets.proofs.Parts.{length-part, part-sets-same}
@@ -18,11 +17,11 @@ use Rattle.message.proofs.FormLaws.{payload-info}
 use Rattle.server.specs.Store.{Entry, Store, lookup, storeCharge}
 use Rattle.queue.specs.Meaning.{owing}
 use Rattle.store.specs.Row.{rowSize, bodyLength, bodyOf, rowFine}
-use Rattle.store.specs.Region.{countOf, storeFine, storeOf}
+use Rattle.store.specs.Region.{countOf, storeOf}
 use Rattle.store.specs.Operation.{charge, body, Found}
 use Rattle.store.proofs.RowLaws.{sound}
 use Rattle.store.proofs.Rows.{row-size}
-use Rattle.store.proofs.Region.{length-storeOf, Remains, remains-start, remains-row, remains-next}
+use Rattle.store.proofs.Region.{length-storeOf, remains-row, remains-behind}
 use Rattle.store.proofs.Change.{found-row, found-none}
 use Rattle.store.proofs.Laws.{row-first}
 use Rattle.slot.specs.Image.{ClientImage, withQueue, owed}
@@ -62,21 +61,7 @@ unfolding owed written said messagePayload
 owed-info Q k v c =
     ap (λ (p : Bytes). withQueue (owing Q (encoded (c .kind) 129 p) (c .queue)) c) (payload-info (k ++ valueTail v))
 
--- ---- rows one behind the other
-
-module _ {st : Bytes} where
-  remains-from : (es fs : Store) {at : ℕ} → Remains st at (es ++ fs) → Remains st (at + storeCharge es) fs
-  unfolding storeCharge
-  remains-from [] fs {at} r = rw (add-zero at) r
-  remains-from (e ∷ es) fs {at} r =
-      let z = row-size (remains-row r .0) in
-      let n : at + rowSize (drop (8 + at) st) + storeCharge es
-      ≡ at + (8 + length (e .key) + length (e .value) + storeCharge es) = omega arith in
-      rw n at (remains-from es fs (remains-next r))
-
-  -- behind the rows of the first entries stand those of the others
-  remains-behind : (es fs : Store) → storeFine st ≡ true → storeOf st ≡ es ++ fs → Remains st (storeCharge es) fs
-  remains-behind es fs f e = rw (zero-add (storeCharge es)) at (remains-from es fs (rw e at (remains-start st f)))
+-- ---- an entry of the store
 
 -- the row at an offset is that of the entry e
 pub record EntryOf (m : Bytes) (at : ℕ) (e : Entry) : Type 0 where

@@ -4,3 +4,4 @@ pub mod Entries
 pub mod Walk
 pub mod Writes
 pub mod Turns
+pub mod Indexing

@@ -66,7 +66,7 @@ module _ (p : Bytes) where
   length-key : length (keyIn p) ≡ firstNul p
   length-key = length-take-le (firstNul p) p (firstNul-le p)
 
-  valueIn-payload : valueIn (keyIn p) p ≡ value
+  pub valueIn-payload : valueIn (keyIn p) p ≡ value
   valueIn-payload = ap (valueIn (keyIn p)) (sym whole) ∙ valueIn-tail (keyIn p) value
 
   value-some : firstNul p < length p → value ≡ some (drop (firstNul p + 1) p)

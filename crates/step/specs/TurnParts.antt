@@ -11,7 +11,7 @@ use Rattle.server.specs.Store.{Store, storeFits, changes}
 use Rattle.server.specs.Step.{storeAfter, refuses}
 use Rattle.store.specs.Row.{keyOf, bodyOf, rowFine}
 use Rattle.store.specs.Region.{storeFine}
-use Rattle.store.specs.Operation.{Found}
+use Rattle.store.specs.Operation.{charge, Found}
 use Rattle.recording.specs.Command.{writeFrom, actionOf, commandFine}
 use Rattle.recording.specs.Turn.{valueIn}
 use Rattle.slot.specs.Image.{owed, notified, onClient}
@@ -57,6 +57,10 @@ Wrote p m m′ = (i : ℕ) → Becomes m m′ (afterTurn infod3 i (writeFrom p) 
 -- whether a WRITE of the payload, whose key has n bytes, changes the store
 abbrev pub changedBy : Bytes → ℕ → Store → Bool
 changedBy p n s = changes (take n p) (valueIn (take n p) p) s
+
+-- the size of the row that a WRITE of the payload, whose key has n bytes, leaves for the key: 0 where it deletes it
+abbrev pub writtenSize : Bytes → ℕ → ℕ
+writtenSize p n = charge (take n p) (valueIn (take n p) p)
 
 -- ---- entries of the store
 

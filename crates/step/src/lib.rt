@@ -8,6 +8,7 @@ ghost use lib.ListN.{length};
 ghost use Rattle.protocol.specs.Terms.{sub, read};
 ghost use Rattle.pattern.specs.Answer.{accepted};
 ghost use Rattle.store.specs.Region.{storeOf};
+ghost use Rattle.store.specs.Index.{Indexes};
 ghost use Rattle.recording.specs.Command.{actionOf};
 ghost use Rattle.infod3.specs.Infod3.{infod3};
 ghost use Rattle.memory.specs.Image.{imageOf};
@@ -17,20 +18,24 @@ ghost use Rattle.service.specs.Turn.{afterTurn, settledImage};
 ghost use Rattle.step.specs.TurnParts.{Turning, EntryAt, entryKey, entryBody, entryInfo};
 ghost use Rattle.step.specs.TurnParts.{StoredAt, OwingIf, Copied, NotifyingAll};
 ghost use Rattle.step.specs.TurnParts.{Writing, KeyAt, WritingAt, Wrote, changedBy};
+ghost use Rattle.step.specs.TurnParts.{writtenSize};
 use message::Message;
 
-// The turn of a command with this ID and payload, which is not refused.
-pub fn turn(mem: &mut [u8], slot: usize, id: u8, p: &[u8])
-    requires { ⌜ Turning (now mem) slot id (now p) ⌝ }
-    ensures { λ _. ⌜ Becomes (now (mem .entry)) (now (mem .exit))
-        (afterTurn infod3 slot (actionOf id (now (p .entry))) (imageOf (now (mem .entry)))) ⌝ }
+// The turn of a command with this ID and payload, which is not refused. What was an index of the
+// store before it is one after it.
+pub fn turn(mem: &mut [u8], slot: usize, id: u8, p: &[u8], index: &mut [usize])
+    requires { ⌜ (Turning (now mem) slot id (now p))
+        × (Indexes (imageOf (now mem) .store) (now index)) ⌝ }
+    ensures { λ _. ⌜ (Becomes (now (mem .entry)) (now (mem .exit))
+        (afterTurn infod3 slot (actionOf id (now (p .entry))) (imageOf (now (mem .entry)))))
+        × (Indexes (imageOf (now (mem .exit)) .store) (now (index .exit))) ⌝ }
 {
     match id {
         0 => memory::owe(mem, slot, Message::Version, b""),
         1 => turn_sub(mem, slot, p),
         2 => memory::remove_pattern(mem, slot, p),
-        3 => turn_read(mem, slot, p),
-        4 => turn_write(mem, p),
+        3 => turn_read(mem, slot, p, &index[..]),
+        4 => turn_write(mem, p, index),
         _ => memory::owe(mem, slot, Message::Pong, p),
     }
 }
@@ -71,12 +76,13 @@ fn owe_match(mem: &mut [u8], slot: usize, pattern: &[u8], at: usize, buf: &mut [
 }
 
 // READ: an INFO with the key's value, or without one where the key is absent.
-fn turn_read(mem: &mut [u8], slot: usize, key: &[u8])
-    requires { ⌜ Turning (now mem) slot 3 (now key) ⌝ }
+fn turn_read(mem: &mut [u8], slot: usize, key: &[u8], index: &[usize])
+    requires { ⌜ (Turning (now mem) slot 3 (now key))
+        × (Indexes (imageOf (now mem) .store) (now index)) ⌝ }
     ensures { λ _. ⌜ Becomes (now (mem .entry)) (now (mem .exit))
         (afterTurn infod3 slot (read (now (key .entry))) (imageOf (now (mem .entry)))) ⌝ }
 {
-    let place = store::find(memory::store_part(&mem[..]), key);
+    let place = store::find(memory::store_part(&mem[..]), index, key);
     let at = place.at;
     let len = place.len;
     if len == 0 {
@@ -142,16 +148,30 @@ fn copy_body(mem: &[u8], at: usize, buf: &mut [u8]) -> usize
     body.len()
 }
 
-// WRITE: the place of its key is looked up, and it is done there.
-fn turn_write(mem: &mut [u8], p: &[u8])
-    requires { ⌜ Writing (now mem) (now p) ⌝ }
-    ensures { λ _. ⌜ Wrote (now (p .entry)) (now (mem .entry)) (now (mem .exit)) ⌝ }
+// WRITE: the place of its key is looked up, and it is done there. The index of the store is moved
+// with the rows behind that place.
+fn turn_write(mem: &mut [u8], p: &[u8], index: &mut [usize])
+    requires { ⌜ (Writing (now mem) (now p)) × (Indexes (imageOf (now mem) .store) (now index)) ⌝ }
+    ensures { λ _. ⌜ (Wrote (now (p .entry)) (now (mem .entry)) (now (mem .exit)))
+        × (Indexes (imageOf (now (mem .exit)) .store) (now (index .exit))) ⌝ }
 {
     let key = octets::first_nul(p);
-    let place = store::find(memory::store_part(&mem[..]), &p[..key]);
+    let place = store::find(memory::store_part(&mem[..]), &index[..], &p[..key]);
     let at = place.at;
     let old = place.len;
     write_at(mem, p, key, at, old);
+    store::move_index(index, at, old, written_size(p, key));
+}
+
+// The size of the row that the WRITE of a payload leaves for its key, which has `key` bytes: 0
+// where it deletes the key.
+fn written_size(p: &[u8], key: usize) -> usize
+    ensures { λ n. ⌜ n ≡ writtenSize (now (p .entry)) key ⌝ }
+{
+    if key < p.len() {
+        return 7 + p.len();
+    }
+    0
 }
 
 // A WRITE of a payload, whose key has `key` bytes. The key's row is at offset `at` and `old` bytes

@@ -3,7 +3,10 @@ pub mod Rows
 pub mod Region
 pub mod Split
 pub mod Splice
-pub mod Turns
+pub mod Walks
 pub mod Change
 pub mod Laws
+pub mod Turns
+pub mod Moving
+pub mod Indexing
 pub mod Cases

@@ -1,11 +1,11 @@
 -- The store region as a relation: what a region that passes the test represents, and what a walk over its rows has
 -- before it.
 use mathlib.Core.Path.{_≡_, refl, sym, ap, _∙_}
-use mathlib.Core.List.{[], _∷_}
+use mathlib.Core.List.{[], _∷_, _++_}
 use mathlib.Core.Bool.{true}
 use mathlib.Core.Option.{none}
 use Prim.Native.Nat.{ℕ, zero, suc, _+_, _-_, _≤_, _<_}
-use native.Mathlib.Nat.{sub-zero}
+use native.Mathlib.Nat.{sub-zero, add-zero, zero-add}
 use native.Mathlib.Omega.{arith}
 use borrow.Author.Tests.{leb-true, le-leb}
 use lib.Dec.{leb}
@@ -18,7 +18,7 @@ use Rattle.server.specs.Invariant.{Ascending}
 use Rattle.server.proofs.Tests.{and-left, and-right}
 use Rattle.store.specs.Row.{rowSize}
 use Rattle.store.specs.Region.{usedOf, countOf, rowsOf, storeFine, entries, storeOf}
-use Rattle.store.proofs.Rows.{Row, Rows, row-front, row-alike, length-rows}
+use Rattle.store.proofs.Rows.{Row, Rows, row-size, row-front, row-alike, length-rows}
 use Rattle.store.proofs.Rows.{Above, ordered, ordered-fine, entries-rows}
 
 -- ---- what a region represents
@@ -146,3 +146,17 @@ pub record First (es : Store) : Type 0 where
 pub remains-more : {st : Bytes} {at : ℕ} (es : Store) → Remains st at es → at < usedOf st → First es
 remains-more [] r h = absurd (omega (arith, remains-end r))
 remains-more (e ∷ es) r h = record { first = e; rest = es; cons = refl }
+
+module _ {st : Bytes} where
+  remains-from : (es fs : Store) {at : ℕ} → Remains st at (es ++ fs) → Remains st (at + storeCharge es) fs
+  unfolding storeCharge
+  remains-from [] fs {at} r = rw (add-zero at) r
+  remains-from (e ∷ es) fs {at} r =
+      let z = row-size (remains-row r .0) in
+      let n : at + rowSize (drop (8 + at) st) + storeCharge es
+      ≡ at + (8 + length (e .key) + length (e .value) + storeCharge es) = omega arith in
+      rw n at (remains-from es fs (remains-next r))
+
+  -- behind the rows of the first entries stand those of the others
+  pub remains-behind : (es fs : Store) → storeFine st ≡ true → storeOf st ≡ es ++ fs → Remains st (storeCharge es) fs
+  remains-behind es fs f e = rw (zero-add (storeCharge es)) at (remains-from es fs (rw e at (remains-start st f)))

@@ -1,103 +1,32 @@
--- The turns of the two loops over rows, on plain values: the test of the region, and the search for a key.
+-- The search for a key along the rows, on plain values.
 use mathlib.Core.Path.{_≡_, refl, sym, ap, _∙_}
-use mathlib.Core.List.{[], _∷_}
-use mathlib.Core.Bool.{Bool, true, false}
-use mathlib.Core.Option.{some, none}
-use Prim.Native.Nat.{ℕ, zero, suc, _+_, _-_, _≤_, _<_}
-use native.Mathlib.Nat.{add-zero, zero-add}
+use mathlib.Core.List.{[], _∷_, _++_}
+use mathlib.Core.Bool.{true}
+use Prim.Native.Nat.{ℕ, _+_, _≤_, _<_}
+use native.Mathlib.Nat.{add-zero}
 use native.Mathlib.Omega.{arith}
-use borrow.Author.Tests.{eqb-true, eqb-false, eq-eqb, ne-eqb}
-use lib.Dec.{eqb}
-use lib.ListN.{length, drop, length-drop}
-use lib.Seq.{drop-drop}
+use borrow.Author.Tests.{ltb-true}
+use lib.Dec.{ltb}
+use lib.ListN.{length, drop}
 use Rattle.octets.specs.Octets.{Bytes}
 use Rattle.octets.specs.Order.{before, order}
 use Rattle.octets.specs.declared.comparison.Order.the-variants.{Less, Equal, Greater}
-use Rattle.octets.proofs.Orders.{order-less, order-equal, order-greater}
+use Rattle.octets.proofs.Orders.{order-less, order-equal, order-greater, before-trans}
 use Rattle.server.specs.Store.{Entry, Store, lookup, storeCharge}
-use Rattle.server.proofs.Tests.{either}
+use Rattle.server.specs.Invariant.{After, Ascending}
+use Rattle.server.proofs.Tests.{and-left, and-right}
 use Rattle.server.proofs.Stores.{lookup-after}
 use Rattle.store.specs.Row.{rowSize, keyOf, entryOf, rowFine}
-use Rattle.store.specs.Region.{usedOf, follows, keyBefore, keyFollows, rowsFine, storeFine, storeOf}
+use Rattle.store.specs.Region.{usedOf, storeFine, storeOf}
 use Rattle.store.specs.Operation.{lower, charge, Found}
-use Rattle.store.proofs.RowLaws.{sound, sound-fine}
+use Rattle.store.specs.Index.{Boundary, rowBefore, AllBefore, Start}
+use Rattle.store.proofs.RowLaws.{sound-fine}
 use Rattle.store.proofs.Rows.{row-size}
-use Rattle.store.proofs.Region.{Remains, remains-start, remains-row, remains-next, remains-more}
+use Rattle.store.proofs.Region.{ascending-storeOf, Remains, remains-row, remains-next, remains-more}
+use Rattle.store.proofs.Region.{remains-behind}
 use Rattle.store.proofs.Split.{lower-before, lookup-before, lower-same, lookup-same, lower-behind, after-behind}
-
--- ---- the test of the region
-
-module _ (s : Bytes) (prev at : ℕ) where
-  pub keyBefore-first : at ≡ 0 → keyBefore s prev at ≡ none
-  unfolding keyBefore
-  keyBefore-first e = rw (eq-eqb at 0 e)
-
-  pub keyBefore-next : 0 < at → keyBefore s prev at ≡ some (keyOf (drop prev s))
-  unfolding keyBefore
-  keyBefore-next h =
-      let n : at ≡ 0 → ⊥ = λ e. omega arith in
-      rw (ne-eqb at 0 n)
-
-pub follows-first : (s : Bytes) (prev at : ℕ) → at ≡ 0 → true ≡ keyFollows s prev at
-unfolding follows keyFollows
-follows-first s prev at e = rw (keyBefore-first s prev at e)
-
-pub follows-next : (s : Bytes) (prev at : ℕ) → (at ≡ 0 → ⊥)
-    → before (keyOf (drop prev s)) (keyOf (drop at s)) ≡ keyFollows s prev at
-unfolding follows keyFollows
-follows-next s prev at n = rw (keyBefore-next s prev at (omega arith))
-
--- The rows up to offset `at` have passed; `left` are left. The answer for all is the answer for the rest.
-pub record Checked (answer : Bool) (s : Bytes) (prev at left : ℕ) : Type 0 where
-  pub within : at ≤ length s
-  pub row-before : rowFine (drop at s) ≡ true → rowFine (drop prev s) ≡ true
-  pub same-answer : answer ≡ rowsFine (keyBefore s prev at) left (drop at s)
-
-pub checked-start : (s : Bytes) (n : ℕ) → Checked (rowsFine none n s) s 0 0 n
-checked-start s n =
-    record { within = omega arith; row-before = λ e. e; same-answer = rw (keyBefore-first s 0 0 refl) }
-
-module _ {answer : Bool} {s : Bytes} {prev at : ℕ} where
-  pub checked-none : (left : ℕ) → Checked answer s prev at left → 0 < left → rowFine (drop at s) ≡ false
-      → answer ≡ false
-  unfolding rowsFine
-  checked-none zero c h e = absurd (omega arith)
-  checked-none (suc left) c h e = rw e at (c .same-answer)
-
-  pub checked-unordered : (left : ℕ) → Checked answer s prev at left → 0 < left → rowFine (drop at s) ≡ true
-      → keyFollows s prev at ≡ false → answer ≡ false
-  unfolding rowsFine keyFollows
-  checked-unordered zero c h e f = absurd (omega arith)
-  checked-unordered (suc left) c h e f = rw (e, f) at (c .same-answer)
-
-  pub checked-next : (left : ℕ) → Checked answer s prev at left → 0 < left → rowFine (drop at s) ≡ true
-      → keyFollows s prev at ≡ true → Checked answer s at (at + rowSize (drop at s)) (left - 1)
-  unfolding rowsFine keyFollows
-  checked-next zero c h e f = absurd (omega arith)
-  checked-next (suc left) c h e f =
-      let l : suc left - 1 ≡ left = omega arith in
-      let w = sound (drop at s) e .whole in
-      record {
-        within = omega (arith, length-drop at s, c .within);
-        row-before = λ _. e;
-        same-answer =
-            rw (l, keyBefore-next s at (at + rowSize (drop at s)) (omega arith))
-            (rw (← (drop-drop (rowSize (drop at s)) at s)) (rw (e, f) at (c .same-answer)));
-      }
-
-  pub checked-end : (left : ℕ) → Checked answer s prev at left → left ≤ 0 → answer ≡ eqb at (length s)
-  unfolding rowsFine
-  checked-end (suc left) c h = absurd (omega arith)
-  checked-end zero c h =
-      let w = c .within in
-      let d = length-drop at s in
-      c .same-answer
-      ∙ either (eqb at (length s))
-      (λ e. let q = eqb-true at (length s) e in rw e (eq-eqb (length (drop at s)) 0 (omega arith)))
-      (λ e. let n : length (drop at s) ≡ 0 → ⊥ = λ z. eqb-false at (length s) e (omega arith) in
-      rw e (ne-eqb (length (drop at s)) 0 n))
-
--- ---- the search for a key
+use Rattle.store.proofs.Split.{charge-append}
+use Rattle.store.proofs.Laws.{RowOf, row-first}
 
 -- The keys of all rows up to offset `at` come before k. What is found in the whole is what is found in the rest.
 pub record Searched (st k : Bytes) (at : ℕ) : Type 0 where
@@ -106,9 +35,34 @@ pub record Searched (st k : Bytes) (at : ℕ) : Type 0 where
   pub same-lower : storeCharge (lower k (storeOf st)) ≡ at + storeCharge (lower k rest)
   pub same-lookup : lookup k (storeOf st) ≡ lookup k rest
 
-pub searched-start : (st k : Bytes) → storeFine st ≡ true → Searched st k 0
-searched-start st k f =
-    record { rest = storeOf st; remains = remains-start st f; same-lower = sym (zero-add _); same-lookup = refl }
+-- entries in front whose keys come before k
+module _ (k : Bytes) (fs : Store) where
+  lower-behind-front : (es : Store) → AllBefore k es → lower k (es ++ fs) ≡ es ++ lower k fs
+  unfolding AllBefore
+  lower-behind-front [] a = refl
+  lower-behind-front (e ∷ es) a =
+      lower-before k e (es ++ fs) (a .0) ∙ ap (λ (l : Store). e ∷ l) (lower-behind-front es (a .1))
+
+  lookup-behind-front : (es : Store) → AllBefore k es → lookup k (es ++ fs) ≡ lookup k fs
+  unfolding AllBefore
+  lookup-behind-front [] a = refl
+  lookup-behind-front (e ∷ es) a = lookup-before k e (es ++ fs) (a .0) ∙ lookup-behind-front es (a .1)
+
+-- a search begins where the keys in front come before k
+pub searched-start : {st k : Bytes} {at : ℕ} → storeFine st ≡ true → Start st k at → Searched st k at
+searched-start {st} {k} {at} f s =
+    let b = s .boundary in
+    record {
+      rest = b .rest;
+      remains = rw (b .place) (remains-behind (b .front) (b .rest) f (b .whole));
+      same-lower =
+          ap (λ (l : Store). storeCharge (lower k l)) (b .whole)
+          ∙ ap storeCharge (lower-behind-front k (b .rest) (b .front) (s .in-front))
+          ∙ charge-append (b .front) (lower k (b .rest))
+          ∙ ap (λ (n : ℕ). n + storeCharge (lower k (b .rest))) (sym (b .place));
+      same-lookup =
+          ap (lookup k) (b .whole) ∙ lookup-behind-front k (b .rest) (b .front) (s .in-front);
+    }
 
 -- the first of the rest
 record Ahead (st k : Bytes) (at : ℕ) : Type 0 where
@@ -189,3 +143,52 @@ module _ {st k : Bytes} {at : ℕ} (c : Searched st k at) where
           → lookup k (storeOf st) ≡ lookup k es → Found st k at 0
       go [] r l e = record { offset = sym (rw (add-zero at) at l); size = rw e }
       go (e ∷ es) r l q = absurd (omega (arith, remains-row r .1, r .within))
+
+-- ---- where a search begins
+
+-- at the front
+pub start-front : (st k : Bytes) → Start st k 0
+unfolding AllBefore storeCharge
+start-front st k =
+    record { boundary = record { front = []; rest = storeOf st; whole = refl; place = refl }; in-front = tt }
+
+after-within : (j : Bytes) (es : Store) (e : Entry) (fs : Store) → After j (es ++ (e ∷ fs)) → before j (e .key) ≡ true
+unfolding After
+after-within j [] e fs a = a .0
+after-within j (x ∷ es) e fs a = after-within j es e fs (a .1)
+
+all-before : (k : Bytes) (es : Store) (e : Entry) (fs : Store) → Ascending (es ++ (e ∷ fs))
+    → before (e .key) k ≡ true → AllBefore k es
+unfolding AllBefore Ascending
+all-before k [] e fs a b = tt
+all-before k (x ∷ es) e fs a b =
+    (before-trans (x .key) (e .key) k (after-within (x .key) es e fs (a .0)) b, all-before k es e fs (a .1) b)
+
+-- a row begins at a boundary before the end of what is used
+record RowHere (st : Bytes) (at : ℕ) (b : Boundary (storeOf st) at) : Type 0 where
+  pub first : Entry
+  pub others : Store
+  pub cons : b .rest ≡ first ∷ others
+  pub row : RowOf st at first
+
+row-here : (st : Bytes) {at : ℕ} → storeFine st ≡ true → (b : Boundary (storeOf st) at) → at < usedOf st
+    → RowHere st at b
+row-here st {at} f b h =
+    let r : Remains st at (b .rest) = rw (b .place) (remains-behind (b .front) (b .rest) f (b .whole)) in
+    let m = remains-more (b .rest) r h in
+    record { first = m .first; others = m .rest; cons = m .cons; row = row-first (rw (m .cons) at r) }
+
+module _ (st : Bytes) {at : ℕ} (f : storeFine st ≡ true) (b : Boundary (storeOf st) at) where
+  pub boundary-row : at < usedOf st → rowFine (drop (8 + at) st) ≡ true
+  boundary-row h = row-here st f b h .row .fine
+
+  -- at a row whose key comes before k
+  pub start-at : {k : Bytes} → rowBefore st k at ≡ true → Start st k at
+  unfolding rowBefore
+  start-at {k} e =
+      let h = ltb-true at (usedOf st) (and-left (ltb at (usedOf st)) _ e) in
+      let r = row-here st f b h in
+      let q : before (r .first .key) k ≡ true = rw (r .row .key) at (and-right (ltb at (usedOf st)) _ e) in
+      let w : storeOf st ≡ b .front ++ (r .first ∷ r .others) = rw (r .cons) at (b .whole) in
+      let a : Ascending (b .front ++ (r .first ∷ r .others)) = rw w at (ascending-storeOf st f) in
+      record { boundary = b; in-front = all-before k (b .front) (r .first) (r .others) a q }

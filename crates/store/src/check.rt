@@ -1,11 +1,16 @@
-// The test of the store region's layout: one pass over the rows. No byte of a value is read.
+// The test of the store region's layout: one pass over the rows, 32 at a time, which also gathers
+// the index that searches begin from. No byte of a value is read.
 ghost use mathlib.Core.Path.{_≡_};
 ghost use mathlib.Core.Bool.{true};
+ghost use mathlib.Core.List.{[]};
 ghost use mathlib.Core.Option.{none};
 ghost use Prim.Native.Nat.{ℕ, _+_, _≤_, _<_};
 ghost use lib.ListN.{length, drop};
 ghost use Rattle.store.specs.Row.{rowFine};
-ghost use Rattle.store.specs.Region.{keyFollows, rowsFine, storeFine};
+ghost use Rattle.store.specs.Region.{keyFollows, rowsFine, storeFine, entries, storeOf};
+ghost use Rattle.store.specs.Index.{Indexes};
+ghost use Rattle.store.specs.Walk.{Place, Walked};
+use crate::index::note;
 use crate::row;
 use octets::u32_at;
 
@@ -21,30 +26,80 @@ fn key_follows(rows: &[u8], prev: usize, at: usize) -> bool
     octets::precedes(row::key(rows, prev), row::key(rows, at))
 }
 
-// Whether `rows` is `count` whole rows and nothing else, keys strictly ascending.
-fn rows_fine(rows: &[u8], count: usize) -> bool
-    ensures { λ r. ⌜ r ≡ rowsFine none count (now (rows .entry)) ⌝ }
+// How far a walk along the rows has come: whether all have passed, and if so, the row before and
+// where the next one is.
+struct Walk {
+    fine: bool,
+    prev: usize,
+    at: usize,
+}
+
+// Tests `count` rows from offset `from` on, behind the row at `before`.
+fn walk_rows(rows: &[u8], before: usize, from: usize, count: usize) -> Walk
+    requires { ⌜ Place (now rows) before from ⌝ }
+    ensures { λ w. ⌜ Walked (now (rows .entry)) before from count (w .fine) (w .prev) (w .at) ⌝ }
 {
-    let mut at = 0;
-    let mut prev = 0;
+    let mut at = from;
+    let mut prev = before;
     let mut left = count;
     while 0 < left {
         if !row::is_row(rows, at) {
-            return false;
+            return Walk {
+                fine: false,
+                prev,
+                at,
+            };
         }
         if !key_follows(rows, prev, at) {
-            return false;
+            return Walk {
+                fine: false,
+                prev,
+                at,
+            };
         }
         prev = at;
         at += row::size(rows, at);
         left -= 1;
     }
+    Walk {
+        fine: true,
+        prev,
+        at,
+    }
+}
+
+// Whether `rows` is `count` whole rows and nothing else, keys strictly ascending. The offset of
+// every 32nd row is noted in the index, as far as it has room.
+fn rows_fine(rows: &[u8], count: usize, index: &mut [usize]) -> bool
+    requires { ⌜ Indexes [] (now index) ⌝ }
+    ensures { λ r. ⌜ (r ≡ rowsFine none count (now (rows .entry)))
+        × (Indexes (entries count (now (rows .entry))) (now (index .exit))) ⌝ }
+{
+    let mut at = 0;
+    let mut prev = 0;
+    let mut left = count;
+    let mut n = 0;
+    while 0 < left {
+        note(index, n, at);
+        let k = octets::min(left, 32);
+        let w = walk_rows(rows, prev, at, k);
+        if !w.fine {
+            return false;
+        }
+        prev = w.prev;
+        at = w.at;
+        left -= k;
+        n += 1;
+    }
     at == rows.len()
 }
 
-// Whether the region holds a store. A region of fewer than 8 bytes does not.
-pub fn is_fine(st: &[u8]) -> bool
-    ensures { λ r. ⌜ r ≡ storeFine (now (st .entry)) ⌝ }
+// Whether the region holds a store. A region of fewer than 8 bytes does not. An index of zeros is
+// made one of the store on the way.
+pub fn is_fine(st: &[u8], index: &mut [usize]) -> bool
+    requires { ⌜ Indexes [] (now index) ⌝ }
+    ensures { λ r. ⌜ (r ≡ storeFine (now (st .entry)))
+        × (Indexes (storeOf (now (st .entry))) (now (index .exit))) ⌝ }
 {
     if st.len() < 8 {
         return false;
@@ -58,5 +113,5 @@ pub fn is_fine(st: &[u8]) -> bool
         return false;
     }
     let end = 8 + used;
-    rows_fine(&st[8..end], count)
+    rows_fine(&st[8..end], count, index)
 }

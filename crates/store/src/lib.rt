@@ -2,11 +2,13 @@
 // one for each entry, in ascending order of keys. Every function but `is_fine` and `clear` asks for
 // a region that holds a store.
 mod check;
+mod index;
 mod reading;
 mod row;
 mod writing;
 
 pub use check::is_fine;
+pub use index::move_index;
 pub use reading::Place;
 pub use reading::body_at;
 pub use reading::count;

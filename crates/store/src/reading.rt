@@ -5,9 +5,11 @@ ghost use mathlib.Core.Bool.{true};
 ghost use Prim.Native.Nat.{ℕ, _+_, _≤_, _<_};
 ghost use lib.ListN.{length, drop};
 ghost use Rattle.store.specs.Row.{rowSize, keyOf, bodyOf, rowFine};
-ghost use Rattle.store.specs.Region.{usedOf, countOf, storeFine};
+ghost use Rattle.store.specs.Region.{usedOf, countOf, storeFine, storeOf};
+ghost use Rattle.store.specs.Index.{Indexes};
 ghost use Rattle.store.specs.Operation.{Found, bodyFound, rowCount, fitsWith, storeFitsWith};
 ghost use Rattle.store.specs.Operation.{Exchange, Replacement};
+use crate::index::nearest;
 use crate::row;
 use octets::Order;
 use octets::compare;
@@ -61,12 +63,12 @@ pub fn body_at(st: &[u8], at: usize) -> &[u8]
 
 // The offset of the first row whose key is not before `key`, or the used bytes where there is none;
 // and the size of that row if its key is equal, else 0.
-pub fn find(st: &[u8], key: &[u8]) -> Place
-    requires { ⌜ storeFine (now st) ≡ true ⌝ }
+pub fn find(st: &[u8], index: &[usize], key: &[u8]) -> Place
+    requires { ⌜ (storeFine (now st) ≡ true) × (Indexes (storeOf (now st)) (now index)) ⌝ }
     ensures { λ r. ⌜ Found (now (st .entry)) (now (key .entry)) (r .at) (r .len) ⌝ }
 {
     let used = u32_at(st, 0);
-    let mut at = 0;
+    let mut at = nearest(st, index, key);
     while at < used {
         let order = compare(key_at(st, at), key);
         match order {
@@ -89,11 +91,11 @@ pub fn find(st: &[u8], key: &[u8]) -> Place
 
 // The body of the key's entry, a part of the store: key, NUL and value. Empty where the key is
 // absent.
-pub fn look_up<'a>(st: &'a [u8], key: &[u8]) -> &'a [u8]
-    requires { ⌜ storeFine (now st) ≡ true ⌝ }
+pub fn look_up<'a>(st: &'a [u8], index: &[usize], key: &[u8]) -> &'a [u8]
+    requires { ⌜ (storeFine (now st) ≡ true) × (Indexes (storeOf (now st)) (now index)) ⌝ }
     ensures { λ r. ⌜ now r ≡ bodyFound (now (st .entry)) (now (key .entry)) ⌝ }
 {
-    let place = find(st, key);
+    let place = find(st, index, key);
     let at = place.at;
     let len = place.len;
     if len == 0 {

@@ -66,6 +66,11 @@ fn full(mut state: State) -> State {
     state
 }
 
+/// Calls that end with the test of the memory, in any state.
+pub fn tests() -> Vec<Due> {
+    vec![(Call::Close(FREE), 2); 400]
+}
+
 fn feeds(count: usize, input: impl Fn(usize) -> Vec<u8>) -> Vec<Due> {
     let call = |i| (Call::Feed(FEEDER, input(i)), 0);
     (0..count).map(call).collect()

@@ -4,7 +4,9 @@
 //! the measured time. A run goes through all rows several times, and within a row the batches
 //! of the two sides alternate, so that all of them meet the same machine. What is measured is
 //! processor time. The numbers are medians over the batches; a ratio is the median of the
-//! ratios of neighbouring batches. The table goes to the file that the first argument names, too.
+//! ratios of neighbouring batches. Before and after each batch of the library, calls that end with
+//! the test of the memory are measured on the very same memory: what the test costs goes by where
+//! the memory lies, too. The table goes to the file that the first argument names, too.
 
 mod cases;
 mod clock;
@@ -16,18 +18,19 @@ use sides::{Due, Sides, State};
 use std::time::Instant;
 
 /// How often a run goes through all rows.
-const ROUNDS: usize = 9;
+const ROUNDS: usize = 33;
 /// Batches of each side in a round, of which the first is not measured.
 const BATCHES: usize = 5;
 
 /// The numbers of keys in the store.
 const KEYS: [usize; 3] = [10, 100, 1024];
 
-/// The median cost of a call in nanoseconds, and the median of the library's cost as a multiple of
-/// the reference's.
+/// The median cost of a call in nanoseconds, the median of what it costs the library beyond the
+/// test of the memory, and the median of the library's cost as a multiple of the reference's.
 #[derive(Clone, Copy)]
 struct Cost {
     library: f64,
+    own: f64,
     reference: f64,
     ratio: f64,
 }
@@ -37,6 +40,7 @@ struct Measured {
     state: State,
     batch: Vec<Due>,
     library: Vec<f64>,
+    own: Vec<f64>,
     reference: Vec<f64>,
 }
 
@@ -48,6 +52,7 @@ impl Measured {
             state,
             batch,
             library: Vec::new(),
+            own: Vec::new(),
             reference: Vec::new(),
         }
     }
@@ -55,17 +60,24 @@ impl Measured {
     fn round(&mut self, case: &Case) {
         let mut sides = Sides::of(&self.state);
         let calls = (self.batch.len() / case.calls_per_unit) as f64;
+        let tests = cases::tests();
         for turn in 0..BATCHES {
             sides.restore(&self.state);
+            let start = clock::now();
+            let wrong = sides.run_library(&tests);
             let begin = clock::now();
-            let wrong = sides.run_library(&self.batch);
+            let wrong = wrong + sides.run_library(&self.batch);
             let middle = clock::now();
+            let wrong = wrong + sides.run_library(&tests);
+            let tested = clock::now();
             let wrong = wrong + sides.run_reference(&self.batch);
             let end = clock::now();
-            let (library, reference) = ((middle - begin) / calls, (end - middle) / calls);
+            let (library, reference) = ((middle - begin) / calls, (end - tested) / calls);
+            let test = (begin - start + tested - middle) / (2 * tests.len()) as f64;
             assert_eq!(wrong, 0, "{}: other answers than before", case.name);
             if turn > 0 {
                 self.library.push(library);
+                self.own.push(library - case.calls_per_unit as f64 * test);
                 self.reference.push(reference);
             }
         }
@@ -75,6 +87,7 @@ impl Measured {
         let pairs = self.library.iter().zip(&self.reference);
         Cost {
             library: median(self.library.iter().copied()),
+            own: median(self.own.iter().copied()),
             reference: median(self.reference.iter().copied()),
             ratio: median(pairs.map(|(library, reference)| library / reference)),
         }

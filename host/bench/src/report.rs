@@ -92,18 +92,17 @@ fn own_costs(page: &mut String, rows: &[(Case, [Cost; 3])]) {
         page,
         "Every call first tests the rules of the whole memory (answer 7), which walks the store's \
          rows and the open clients: the first row is that test, and it is part of all others.\nHere \
-         each row stands less the first: what the call itself costs, and in brackets as a multiple \
-         of the reference's cost. More than twice the reference is bold.\n"
+         each row stands less that test, measured on the same memory before and after each batch: \
+         what the call itself costs, and in brackets as a multiple\nof the reference's cost. More than \
+         twice the reference is bold.\n"
     );
     let _ = writeln!(page, "| Call | 10 keys | 100 keys | 1,024 keys |");
     let _ = writeln!(page, "|---|---|---|---|");
-    let test = rows[0].1;
     for (case, costs) in &rows[1..] {
         let cells: Vec<String> = costs
             .iter()
-            .zip(&test)
-            .map(|(cost, test)| {
-                let own = (cost.library - case.calls_per_unit as f64 * test.library).max(0.0);
+            .map(|cost| {
+                let own = cost.own.max(0.0);
                 let ratio = own / cost.reference;
                 let text = format!("{} ({ratio:.1}×)", nanoseconds(own));
                 if ratio > 2.0 {

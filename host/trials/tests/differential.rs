@@ -461,6 +461,59 @@ fn streams_cut_at_every_byte() {
     }
 }
 
+/// A packet that writes, deletes or reads one of so many keys.
+fn of_some_key(rng: &mut Random, keys: usize) -> Vec<u8> {
+    let key = format!("{:05}", rng.below(keys) * 64 % 65_537);
+    let length = rng.below(40);
+    match rng.below(10) {
+        0..=5 => messages::packet(
+            4,
+            &[key.as_bytes(), b"\0", &rng.word(b"ab\0", length)].concat(),
+        ),
+        6..=7 => messages::packet(4, key.as_bytes()),
+        _ => messages::packet(3, key.as_bytes()),
+    }
+}
+
+/// WRITEs, deletions and READs of keys anywhere in large stores, plain and in transactions: rows
+/// of other lengths come and go while a COMMIT runs. At the end every key is read back.
+#[test]
+fn many_keys() {
+    let seeds = match from_environment("INFOD3_SEED") {
+        Some(seed) => seed..seed + 1,
+        None => 1..60,
+    };
+    let mut seen = Observed::default();
+    let mut largest = 0;
+    for seed in seeds {
+        let mut rng = Random::new(seed);
+        let mut pair = Pair::new(Sizes::new(1, 65_536, 65_536, 16_384), extra(seed));
+        let keys = rng.between(20, 1_200);
+        assert_eq!(pair.open(0, 0), 0);
+        for _ in 0..rng.below(2 * keys) {
+            pair.feed(0, &of_some_key(&mut rng, keys));
+            pair.drain(0);
+        }
+        for _ in 0..30 {
+            pair.feed(0, &messages::packet(5, b""));
+            for _ in 0..rng.between(1, 64) {
+                pair.feed(0, &of_some_key(&mut rng, keys));
+            }
+            let (answer, _) = pair.feed(0, &messages::packet(6, b""));
+            pair.drain(0);
+            if answer != 0 {
+                assert_eq!((pair.close(0), pair.open(0, 0)), (0, 0));
+            }
+            largest = largest.max(pair.reference.store().entries().count());
+        }
+        if let Err(mismatch) = finish(&mut pair, &mut Vec::new(), &mut seen) {
+            panic!("seed {seed}: {}", mismatch.difference);
+        }
+    }
+    println!("\ndifferential: stores of up to {largest} keys, and transactions in them");
+    assert!(from_environment("INFOD3_SEED").is_some() || largest > 600);
+}
+
 /// What matches have given: refused with 101, with 102, no and yes.
 #[derive(Default)]
 struct Matches {

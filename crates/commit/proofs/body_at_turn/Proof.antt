@@ -7,7 +7,7 @@ use Rattle.commit.proofs.body_at_turn.Tie as tie
 
 returns : tie.Need-returns
 returns c =
-    let A = c .before .before .before .before .before .args in
+    let A = c .before .before .before .before .before .before .args in
     value-storeBefore (A .store .now) (A .recording .now) (A .key .now) (A .at) _ _
     (c .before .look-up .ensures) (c .turn-finds .ensures)
 

@@ -2,28 +2,28 @@
 use Prim.Native.Nat.{_-_}
 use Rattle.store.specs.Region.{roomOf}
 use Rattle.commit.specs.Contracts.{storeBefore}
-use Rattle.commit.proofs.Steps.{row-command, row-known, row-write, row-place, write-short}
+use Rattle.commit.proofs.Steps.{row-command, row-known, row-write, turn-place, write-short}
 use borrow.Author.Needs.{needs}
 use Rattle.commit.proofs.turn.Statement.{statement}
 use Rattle.commit.proofs.turn.Tie as tie
 
 write-turn-requires : tie.Need-write-turn-requires
 write-turn-requires c κs =
-    let A = c .before .before .before .before .before .before .args in
-    let g = c .before .before .before .before .before .before .pre in
+    let A = c .before .before .before .before .before .before .before .args in
+    let g = c .before .before .before .before .before .before .before .pre in
     let i = c .before .before .id-at in
     let p = c .before .payload-at in
     let k = row-known (A .recording .now) (A .at) (g .row) (i .result) _ (i .ensures) (p .ensures) in
     record {
-      place = row-place (A .store .now) (A .recording .now) (A .at) (g .store-fine) (g .row);
+      place = turn-place g;
       short = write-short (i .result) _ (c .if1 .taken) k;
       tally = g .tally;
     }
 
 returns : tie.Need-returns
 returns c =
-    let A = c .before .before .before .before .before .before .before .args in
-    let g = c .before .before .before .before .before .before .before .pre in
+    let A = c .before .before .before .before .before .before .before .before .args in
+    let g = c .before .before .before .before .before .before .before .before .pre in
     let i = c .before .before .before .id-at in
     let p = c .before .before .payload-at in
     let e = c .before .if1 .taken in
@@ -32,8 +32,8 @@ returns c =
 
 pattern-turn-requires : tie.Need-pattern-turn-requires
 pattern-turn-requires c κs =
-    let A = c .before .before .before .before .before .before .before .args in
-    let g = c .before .before .before .before .before .before .before .pre in
+    let A = c .before .before .before .before .before .before .before .before .args in
+    let g = c .before .before .before .before .before .before .before .before .pre in
     let i = c .before .before .before .id-at in
     let p = c .before .before .payload-at in
     record {
@@ -44,8 +44,8 @@ pattern-turn-requires c κs =
 
 returns-2 : tie.Need-returns-2
 returns-2 c =
-    let A = c .before .before .before .before .before .before .before .before .before .before .args in
-    let g = c .before .before .before .before .before .before .before .before .before .before .pre in
+    let A = c .before .before .before .before .before .before .before .before .before .before .before .args in
+    let g = c .before .before .before .before .before .before .before .before .before .before .before .pre in
     let i = c .before .before .before .before .before .before .id-at in
     let p = c .before .before .before .before .before .payload-at in
     let st = A .store .now in

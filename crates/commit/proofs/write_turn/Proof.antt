@@ -14,17 +14,17 @@ use Rattle.commit.proofs.write_turn.Tie as tie
 
 slice-aggregate-body-at-turn : tie.Need-slice-aggregate-body-at-turn
 slice-aggregate-body-at-turn c =
-    let p = c .before .before .before .before .before .args .payload .now in
+    let p = c .before .before .before .before .before .before .args .payload .now in
     sym (length-take-le _ p (omega (arith, firstNul-within p, c .before .first-nul .ensures)))
 
 sub-exchanged : tie.Need-sub-exchanged
 sub-exchanged c =
-    let d = c .before .before .before .before .before .before in
+    let d = c .before .before .before .before .before .before .before in
     omega (arith, represents (d .args .store .now) (d .pre .place .store-fine) .long)
 
 exchanged-requires : tie.Need-exchanged-requires
 exchanged-requires c κs =
-    let d = c .before .before .before .before .before .before in
+    let d = c .before .before .before .before .before .before .before in
     let A = d .args in
     let st = A .store .now in
     let s = storeBefore st (A .recording .now) (A .at) in
@@ -35,7 +35,7 @@ exchanged-requires c κs =
 
 returns : tie.Need-returns
 returns c =
-    let d = c .before .before .before .before .before .before .before in
+    let d = c .before .before .before .before .before .before .before .before in
     let A = d .args in
     let st = A .store .now in
     let s = storeBefore st (A .recording .now) (A .at) in

@@ -17,12 +17,13 @@ use Rattle.step.proofs.turn_read.Statement.{statement}
 use Rattle.step.proofs.turn_read.Tie as tie
 
 find-requires : tie.Need-find-requires
+unfolding imageOf
 find-requires c κs =
-    let begin = c .before .before .before .before in
-    rw (c .store-part .ensures) (begin .pre .in-open .in-slot .sound .store)
+    let begin = c .before .before .before .before .before in
+    rw (c .store-part .ensures) (begin .pre .0 .in-open .in-slot .sound .store, begin .pre .1)
 
 abbrev start : tie.After-find → tie.Start
-start c = c .before .before .before .before .before
+start c = c .before .before .before .before .before .before
 
 -- where the key is found in the memory's store
 place : (c : tie.After-find)
@@ -32,8 +33,8 @@ place c = rw (c .before .store-part .ensures) at (c .find .ensures)
 
 owe-requires : tie.Need-owe-requires
 owe-requires c κs =
-    let begin = c .before .before .before .before .before .before .before in
-    record { in-open = begin .pre .in-open; short = turn-short (begin .pre) }
+    let begin = c .before .before .before .before .before .before .before .before in
+    record { in-open = begin .pre .0 .in-open; short = turn-short (begin .pre .0) }
 
 returns : tie.Need-returns
 returns c =
@@ -41,7 +42,7 @@ returns c =
     let none = owed .before .before in
     let find = none .before in
     let a = start find .args in
-    let o = start find .pre .in-open in
+    let o = start find .pre .0 .in-open in
     read-becomes o (a .key .now) (a .key .now) (absent-body (o .in-slot .sound) (place find) (none .if1 .taken))
     (owed .owe .ensures)
 
@@ -49,7 +50,7 @@ returns c =
 entry : (c : tie.Else1)
     → EntryAt (start (c .before) .args .mem .now) (start (c .before) .args .slot) (c .before .find .result .at)
 entry c =
-    let o = start (c .before) .pre .in-open in
+    let o = start (c .before) .pre .0 .in-open in
     record { in-open = o; row = found-entry (o .in-slot .sound) (place (c .before)) (omega (arith, c .if1 .left)) }
 
 owe-long-entry-requires : tie.Need-owe-long-entry-requires
@@ -64,7 +65,7 @@ told : (c : tie.Else1) {m : Bytes}
     (imageOf (start (c .before) .args .mem .now)))
 told c w =
     let a = start (c .before) .args in
-    let o = start (c .before) .pre .in-open in
+    let o = start (c .before) .pre .0 .in-open in
     read-becomes o (a .key .now) (entryBody (a .mem .now) (c .before .find .result .at))
     (found-body (o .in-slot .sound) (place (c .before)) (omega (arith, c .if1 .left))) w
 
@@ -77,7 +78,7 @@ owe-entry-with-requires : tie.Need-owe-entry-with-requires
 owe-entry-with-requires c κs =
     let short = c .before .before in
     let some = short .before in
-    let h = start (some .before) .pre .in-open .in-slot .sound in
+    let h = start (some .before) .pre .0 .in-open .in-slot .sound in
     let n = found-size h (place (some .before)) (omega (arith, some .if1 .left)) in
     (entry some, omega (arith, n, short .if2 .left))
 

@@ -2,7 +2,7 @@
 use mathlib.Core.Path.{ap₂, _∙_}
 use borrow.Author.Needs.{needs}
 use Rattle.octets.specs.Order.{before}
-use Rattle.store.proofs.Turns.{follows-first, follows-next}
+use Rattle.store.proofs.Walks.{follows-first, follows-next}
 use Rattle.store.proofs.check.key_follows.Statement.{statement}
 use Rattle.store.proofs.check.key_follows.Tie as tie
 

@@ -1,78 +1,105 @@
--- `store::check::rows_fine` meets its contract. The loop's invariant: the answer for all rows is the answer for the
--- rows from `at` on, of which there are to be `left`, behind the key of the row at `prev`. The measure is `left`.
-use mathlib.Core.Path.{_≡_, sym, _∙_}
-use mathlib.Core.Bool.{true}
-use mathlib.Core.Option.{none}
+-- `store::check::rows_fine` meets its contract. The loop's invariant: all rows but the `left` last ones have passed, in
+-- n walks, and the index is one of the store. The measure is `left`.
+use mathlib.Core.Path.{_≡_, refl, sym, _∙_}
+use Prim.Native.Nat.{_+_, _-_, _≤_}
 use native.Mathlib.Omega.{arith}
 use borrow.Author.Needs.{needs}
 use borrow.Author.Tests.{not-true, not-false}
-use lib.ListN.{drop}
-use Rattle.store.specs.Row.{rowFine}
-use Rattle.store.specs.Region.{rowsFine}
-use Rattle.store.proofs.RowLaws.{row-within, body-at}
-use Rattle.store.proofs.Turns.{Checked, checked-start, checked-none, checked-unordered}
-use Rattle.store.proofs.Turns.{checked-next, checked-end}
+use lib.ListN.{length, length-set}
+use Rattle.store.specs.Region.{entries}
+use Rattle.store.specs.Index.{Indexes}
+use Rattle.store.specs.Walk.{Passed}
+use Rattle.store.proofs.Indexing.{unindexed, indexes-set}
+use Rattle.store.proofs.Walks.{place-start, passed-start, passed-append, failed-append}
+use Rattle.store.proofs.Walks.{passed-boundary, passed-end, failed-end}
 use Rattle.store.proofs.check.rows_fine.Statement.{statement}
 use Rattle.store.proofs.check.rows_fine.Tie as tie
 
 abbrev Inv-loop : tie.InvT-loop
-Inv-loop rows count at₀ prev₀ left₀ at prev left = Checked (rowsFine none count rows) rows prev at left
+Inv-loop rows count index₀ at₀ prev₀ left₀ n₀ index at prev left n =
+    (n + left ≤ count) × (length index ≡ length index₀) × Passed rows 0 0 (count - left) prev at
+    × Indexes (entries count rows) index
 
 abbrev μ-loop : tie.MeasureT-loop
-μ-loop rows count at₀ prev₀ left₀ at prev left = left
+μ-loop rows count index₀ at₀ prev₀ left₀ n₀ index at prev left n = left
 
 loop-holds : tie.Need-loop-holds Inv-loop μ-loop
-loop-holds c = checked-start (c .before .args .rows .now) (c .before .args .count)
+loop-holds c =
+    let start = c .before .before in
+    let A = start .args in
+    let z : A .count - A .count ≡ 0 = omega arith in (
+      omega arith,
+      refl,
+      rw z (passed-start (place-start (A .rows .now))),
+      unindexed (entries (A .count) (A .rows .now)) (A .index .now) (start .pre),
+    )
 
--- a row stands at `at`
-here : (c : tie.Else1 Inv-loop μ-loop)
-    → rowFine (drop (c .before .before .before .loop .at) (c .before .before .before .before .before .args .rows .now))
-    ≡ true
-here c =
-    sym (c .before .is-row .ensures) ∙ not-false (c .before .is-row .result) (c .if1 .left)
+-- the offset that is noted is where a row begins
+indexed : (c : tie.After-note Inv-loop μ-loop)
+    → Indexes (entries (c .before .before .before .before .before .before .args .count)
+    (c .before .before .before .before .before .before .args .rows .now)) (c .note .last .0)
+indexed c =
+    let L = c .before .before .before .loop in
+    let count = c .before .before .before .before .before .before .args .count in
+    let b = passed-boundary (L .inv .2) (L .left) count (omega (arith, L .inv .0)) in
+    rw (c .note .ensures) (indexes-set (L .n) (L .inv .3) b)
+
+same-size : (c : tie.After-note Inv-loop μ-loop)
+    → length (c .note .last .0) ≡ length (c .before .before .before .before .before .before .args .index .now)
+same-size c =
+    let L = c .before .before .before .loop in
+    rw (c .note .ensures) (length-set (L .index) (L .n) (L .at) ∙ L .inv .1)
+
+walk-rows-requires : tie.Need-walk-rows-requires Inv-loop μ-loop
+walk-rows-requires c κs = c .before .before .before .before .before .before .loop .inv .2 .place
+
+same-length : tie.Need-same-length Inv-loop μ-loop
+same-length c = same-size (c .before .before .before .before .before .before)
 
 returns : tie.Need-returns Inv-loop μ-loop
 returns c =
-    let in-loop = c .before .before in
-    let at-loop = in-loop .before in
-    sym (checked-none (at-loop .loop .left) (at-loop .loop .inv) (in-loop .loop-test .taken)
-    (sym (c .before .is-row .ensures) ∙ not-true (c .before .is-row .result) (c .if1 .taken)))
+    let d = c .before .before .before .before .before .before in
+    let L = d .before .before .before .loop in
+    let count = d .before .before .before .before .before .before .args .count in
+    let k = c .before .before .before .min in
+    let w = c .before .before .walk-rows in
+    let f = w .ensures .failed (not-true (w .result .fine) (c .if1 .taken)) in (
+      sym (failed-end (failed-append (L .inv .2) f) (L .left - k .result) count
+          (omega (arith, L .inv .0, k .ensures))),
+      indexed d,
+    )
 
-key-follows-requires : tie.Need-key-follows-requires Inv-loop μ-loop
-key-follows-requires c κs = (c .before .before .before .loop .inv .row-before (here c), here c)
+sub-left : tie.Need-sub-left Inv-loop μ-loop
+sub-left c = omega (arith, c .before .before .before .min .ensures)
 
-returns-2 : tie.Need-returns-2 Inv-loop μ-loop
-returns-2 c =
-    let else1 = c .before .before in
-    let in-loop = else1 .before .before in
-    let at-loop = in-loop .before in
-    sym (checked-unordered (at-loop .loop .left) (at-loop .loop .inv) (in-loop .loop-test .taken) (here else1)
-    (sym (c .before .key-follows .ensures) ∙ not-true (c .before .key-follows .result) (c .if2 .taken)))
+add-n : tie.Need-add-n Inv-loop μ-loop
+add-n c =
+    let L = c .before .before .before .before .before .before .before .before .before .loop in
+    omega (arith, L .inv .0)
 
-size-requires : tie.Need-size-requires Inv-loop μ-loop
-size-requires c κs = here (c .before .before)
-
-add-at : tie.Need-add-at Inv-loop μ-loop
-add-at c =
-    let else1 = c .before .before .before in
-    let at-loop = else1 .before .before .before in
-    let start = at-loop .before .before in
-    let w = row-within (start .args .rows .now) (at-loop .loop .at) (here else1) in
-    let b = body-at (start .args .rows .now) (at-loop .loop .at) in
-    omega (arith, c .size .ensures)
+loop-less : tie.Need-loop-less Inv-loop μ-loop
+loop-less c = omega (arith, c .before .before .before .min .ensures)
 
 loop-again : tie.Need-loop-again Inv-loop μ-loop
 loop-again c =
-    let key-follows = c .before .before in
-    let else1 = key-follows .before in
-    let in-loop = else1 .before .before in
-    let at-loop = in-loop .before in
-    rw (c .size .ensures)
-    (checked-next (at-loop .loop .left) (at-loop .loop .inv) (in-loop .loop-test .taken) (here else1)
-    (sym (key-follows .key-follows .ensures) ∙ not-false (key-follows .key-follows .result) (c .before .if2 .left)))
+    let d = c .before .before .before .before .before .before in
+    let L = d .before .before .before .loop in
+    let count = d .before .before .before .before .before .before .args .count in
+    let k = c .before .before .before .min in
+    let w = c .before .before .walk-rows in
+    let p = w .ensures .passed (not-false (w .result .fine) (c .if1 .left)) in
+    let n : count - L .left + k .result ≡ count - (L .left - k .result) = omega (arith, L .inv .0, k .ensures) in
+    (omega (arith, L .inv .0, k .ensures), same-size d, rw n at (passed-append (L .inv .2) p), indexed d)
 
-returns-3 : tie.Need-returns-3 Inv-loop μ-loop
-returns-3 c = sym (checked-end (c .before .loop .left) (c .before .loop .inv) (c .loop-test .left))
+same-length-2 : tie.Need-same-length-2 Inv-loop μ-loop
+same-length-2 c = c .before .loop .inv .1
+
+returns-2 : tie.Need-returns-2 Inv-loop μ-loop
+returns-2 c =
+    let L = c .before .loop in
+    let count = c .before .before .before .before .args .count in
+    let n : count - L .left ≡ count = omega (arith, c .loop-test .left) in
+    (sym (passed-end (rw n at (L .inv .2))), L .inv .3)
 
 pub rows-fine-spec : {M : Type 1} → statement M
 rows-fine-spec =
@@ -82,12 +109,13 @@ rows-fine-spec =
     μ-loop
     loop-holds
     (λ c κs. search needs)
+    (λ c κs. search needs)
+    walk-rows-requires
+    same-length
     returns
-    key-follows-requires
-    returns-2
-    size-requires
-    add-at
-    (λ c. search needs)
-    (λ c. search needs)
+    sub-left
+    add-n
+    loop-less
     loop-again
-    returns-3)
+    same-length-2
+    returns-2)

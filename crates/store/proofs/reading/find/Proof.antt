@@ -17,22 +17,25 @@ use Rattle.store.proofs.reading.find.Statement.{statement}
 use Rattle.store.proofs.reading.find.Tie as tie
 
 abbrev Inv-loop : tie.InvT-loop
-Inv-loop st key used at₀ at = (used ≡ usedOf st) × Searched st key at
+Inv-loop st index key used at₀ at = (used ≡ usedOf st) × Searched st key at
 
 abbrev μ-loop : tie.MeasureT-loop
-μ-loop st key used at₀ at = used - at
+μ-loop st index key used at₀ at = used - at
 
 u32-at-requires : tie.Need-u32-at-requires Inv-loop μ-loop
-u32-at-requires c κs = let r = represents (c .before .before .args .st .now) (c .before .before .pre) in omega arith
+u32-at-requires c κs =
+    let start = c .before .before .before in
+    let r = represents (start .args .st .now) (start .pre .0) in
+    omega arith
 
 loop-holds : tie.Need-loop-holds Inv-loop μ-loop
 loop-holds c =
-    let start = c .before .before .before in
-    (c .u32-at .ensures .value, searched-start (start .args .st .now) (start .args .key .now) (start .pre))
+    let start = c .before .before .before .before .before in
+    (c .before .u32-at .ensures .value, searched-start (start .pre .0) (c .nearest .ensures))
 
 -- the loop has not come to the end of what is used
 inside : (c : tie.In-loop Inv-loop μ-loop)
-    → c .before .loop .at < usedOf (c .before .before .before .before .before .args .st .now)
+    → c .before .loop .at < usedOf (c .before .before .before .before .before .before .before .args .st .now)
 inside c =
     let e = c .before .loop .inv .0 in omega arith
 
@@ -49,9 +52,9 @@ add-at : tie.Need-add-at Inv-loop μ-loop
 add-at c =
     let in-loop = c .before .before .before .before .before in
     let at-loop = in-loop .before in
-    let start = at-loop .before .before .before .before in
+    let start = at-loop .before .before .before .before .before .before in
     let w = searched-within (at-loop .loop .inv .1) (inside in-loop) in
-    let r = represents (start .args .st .now) (start .pre) in
+    let r = represents (start .args .st .now) (start .pre .0) in
     omega (arith, c .row-size .ensures)
 
 loop-less : tie.Need-loop-less Inv-loop μ-loop
@@ -61,7 +64,7 @@ loop-again : tie.Need-loop-again Inv-loop μ-loop
 loop-again c =
     let in-loop = c .before .before .before .before .before in
     let at-loop = in-loop .before in
-    let start = at-loop .before .before .before .before in
+    let start = at-loop .before .before .before .before .before .before in
     let a = start .args in
     let at = at-loop .loop .at in
     let o : order (keyOf (drop (8 + at) (a .st .now))) (a .key .now) ≡ Less = cc in
@@ -77,7 +80,7 @@ returns : tie.Need-returns Inv-loop μ-loop
 returns c =
     let in-loop = c .before .before .before .before .before in
     let at-loop = in-loop .before in
-    let start = at-loop .before .before .before .before in
+    let start = at-loop .before .before .before .before .before .before in
     let a = start .args in
     let at = at-loop .loop .at in
     let o : order (keyOf (drop (8 + at) (a .st .now))) (a .key .now) ≡ Equal = cc in
@@ -87,7 +90,7 @@ returns-2 : tie.Need-returns-2 Inv-loop μ-loop
 returns-2 c =
     let in-loop = c .before .before .before .before in
     let at-loop = in-loop .before in
-    let start = at-loop .before .before .before .before in
+    let start = at-loop .before .before .before .before .before .before in
     let a = start .args in
     let at = at-loop .loop .at in
     let o : order (keyOf (drop (8 + at) (a .st .now))) (a .key .now) ≡ Greater = cc in
@@ -105,6 +108,7 @@ find-spec =
     Inv-loop
     μ-loop
     u32-at-requires
+    (λ c κs. search needs)
     loop-holds
     key-at-requires
     (λ c κs. search needs)

@@ -12,13 +12,15 @@ unfolding body
 returns c = rw (found-none (c .before .before .find .ensures) (c .before .if1 .taken))
 
 body-at-requires : tie.Need-body-at-requires
-body-at-requires c κs = found-row (c .before .before .before .before .pre) (c .before .find .ensures) (omega arith) .0
+body-at-requires c κs =
+    let find = c .before in
+    found-row (find .before .before .before .before .pre .0) (find .find .ensures) (omega arith) .0
 
 returns-2 : tie.Need-returns-2
 returns-2 c =
     let find = c .before .before in
-    let start = find .before .before .before in
-    c .body-at .ensures ∙ found-row (start .pre) (find .find .ensures) (omega arith) .1
+    let start = find .before .before .before .before in
+    c .body-at .ensures ∙ found-row (start .pre .0) (find .find .ensures) (omega arith) .1
 
 pub look-up-spec : {M : Type 1} → statement M
 look-up-spec =

@@ -18,7 +18,7 @@ ghost use Rattle.wire.specs.Received.{isWhole};
 ghost use Rattle.memory.specs.Image.{slotIn, isUsed, imageOf};
 ghost use Rattle.memory.specs.Rules.{Sound};
 ghost use Rattle.infod3.specs.Infod3.{infod3};
-ghost use Rattle.server.specs.Decision.{opens, feeds, takes, closes};
+ghost use Rattle.server.specs.Decision.{opens, feeds, closes};
 ghost use Rattle.server.specs.Calls.{kindOf};
 ghost use Rattle.service.specs.Contracts.{Serves, Takes};
 use protocol::Kind;

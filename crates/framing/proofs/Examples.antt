@@ -1,9 +1,8 @@
 -- Inputs and their first messages, computed.
-use Prim.Native.Nat.{ℕ}
 use mathlib.Core.Path.{_≡_, refl}
 use mathlib.Core.Bool.{true, false}
 use mathlib.Core.List.{List, [], _∷_, map}
-use Rattle.octets.specs.Octets.{Bytes, ascii}
+use Rattle.octets.specs.Octets.{Bytes}
 use Rattle.protocol.specs.declared.Kind.{Kind}
 use Rattle.protocol.specs.declared.Kind.the-variants.{Packets, Stream, Framed, Text}
 use Rattle.framing.specs.Framing.{startsText, kindOf, endsLine, lineEnd, lineLength, frameLength, lengthOf}

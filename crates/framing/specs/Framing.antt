@@ -1,7 +1,7 @@
 -- The first whole message of an input (document 01, "From bytes to one command", its first paragraph and the line's
 -- limit). A message of a stream is never empty, so there an empty one means that it is not whole yet.
-use mathlib.Core.List.{List, [], _∷_}
-use mathlib.Core.Bool.{Bool, true, false, cond, _&&_, _||_}
+use mathlib.Core.List.{[], _∷_}
+use mathlib.Core.Bool.{Bool, cond, _&&_, _||_}
 use Prim.Native.Nat.{ℕ, _+_, _*_}
 use lib.Dec.{eqb, leb, ltb}
 use lib.ListN.{length, take}

@@ -1,7 +1,7 @@
 // Framing: the kind of a stream by its first byte, and the first whole message of an input as a
 // part of the caller's slice.
 ghost use mathlib.Core.Path.{_≡_};
-ghost use Prim.Native.Nat.{ℕ, _+_, _*_, _≤_, _<_};
+ghost use Prim.Native.Nat.{_+_, _*_, _≤_, _<_};
 ghost use lib.ListN.{length, take, drop};
 ghost use Rattle.framing.specs.Framing.{startsText, kindOf, endsLine, lineEnd, lineLength};
 ghost use Rattle.framing.specs.Framing.{frameLength, lengthOf, message};

@@ -1,6 +1,6 @@
 -- Document 01's script program as a function from its standard input to its standard output, and the paper's script
 -- computed: whole input, whole output.
-use Prim.Native.Nat.{ℕ, _+_, _-_}
+use Prim.Native.Nat.{_+_, _-_}
 use Prim.Native.String.{String}
 use mathlib.Core.Path.{_≡_, refl}
 use mathlib.Core.List.{List, [], _∷_, _++_, map}
@@ -10,7 +10,6 @@ use lib.ListN.{getD, drop}
 use Rattle.octets.specs.Octets.{Bytes, ascii, hasNul, firstNul}
 use Rattle.octets.specs.Order.{same}
 use Rattle.octets.specs.Number.{bigEndian}
-use Rattle.protocol.specs.Terms.{messagePayload}
 use Rattle.pattern.specs.Tokens.{single, tokens}
 use Rattle.pattern.specs.Syntax.{valid, fits, starFits}
 use Rattle.pattern.specs.Parts.{parts}

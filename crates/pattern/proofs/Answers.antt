@@ -1,7 +1,7 @@
 -- The whole walk's report as the yes or no and the steps of a match.
 use mathlib.Core.Path.{_≡_, refl, sym, ap, _∙_}
 use mathlib.Core.Bool.{Bool, true, false, _||_}
-use Prim.Native.Nat.{ℕ, _<_, _≤_}
+use Prim.Native.Nat.{ℕ, _<_}
 use native.Mathlib.Omega.{arith}
 use lib.Arith.{lt-of-le-ne}
 use lib.Dec.{ltb}
@@ -11,10 +11,8 @@ use borrow.Author.Tests.{ltb-false}
 use Rattle.octets.specs.Octets.{Bytes}
 use Rattle.pattern.specs.declared.walk.Walk.{Walk}
 use Rattle.pattern.specs.Tree.{treeOf}
-use Rattle.pattern.specs.Matching.{Outcome}
 use Rattle.pattern.specs.Answer.{outcome, whole, stepsOf, tooLong, refusal, answer, accepted}
 use Rattle.pattern.specs.Syntax.{valid}
-use Rattle.pattern.specs.declared.Match.{Match}
 use Rattle.pattern.specs.declared.Verdict.{Verdict}
 use Rattle.pattern.specs.Checking.{tokensAt}
 use Rattle.pattern.specs.Places.{treeAt, reported}

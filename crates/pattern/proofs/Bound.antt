@@ -1,6 +1,6 @@
 -- The bound on the steps: an element that is no group costs at most the key's length and 1 each time that it is tried,
 -- and each is tried at most once.
-use mathlib.Core.List.{List, [], _∷_}
+use mathlib.Core.List.{[], _∷_}
 use mathlib.Core.Bool.{Bool, true, false, cond}
 use Prim.Native.Nat.{ℕ, _+_, _*_, _≤_}
 use native.Mathlib.Nat.{add-mul, one-mul, mul-le-mul, le-trans}

@@ -7,10 +7,10 @@ use lib.ListN.{length, drop}
 use Rattle.octets.specs.Octets.{Bytes}
 use Rattle.pattern.specs.declared.walk.Walk.{Walk}
 use Rattle.pattern.specs.declared.walk.Turn.the-variants.{Over}
-use Rattle.pattern.specs.Tree.{Level, branches, above, sequence}
-use Rattle.pattern.specs.Matching.{more, seqM, branchM}
+use Rattle.pattern.specs.Tree.{Level, branches, above}
+use Rattle.pattern.specs.Matching.{more, branchM}
 use Rattle.pattern.specs.Answer.{stepsOf}
-use Rattle.pattern.specs.Walking.{Continues, PastGroup, NextBranch, Reports, Walked, WalkedOver}
+use Rattle.pattern.specs.Walking.{Continues, PastGroup, NextBranch, Walked, WalkedOver}
 use Rattle.pattern.proofs.Outcomes.{more-zero, more-more, steps-more, steps-reported}
 use Rattle.pattern.proofs.Outcomes.{branch-hit, branch-last, branch-next, steps-branch}
 use Rattle.pattern.proofs.Levels.{above-ended, branches-last, branches-or, above-next}

@@ -1,22 +1,21 @@
 -- Theorems about the definitions of this crate: the bound on the steps, what `accepted` is to `answer`, and that
 -- nothing of a valid pattern is left out of its tree.
-use mathlib.Core.Path.{_≡_, refl, sym, ap, _∙_}
+use mathlib.Core.Path.{_≡_, refl, sym}
 use mathlib.Core.List.{List, [], _∷_}
 use mathlib.Core.Bool.{Bool, true, false, _&&_}
-use Prim.Native.Nat.{ℕ, _+_, _-_, _*_, _<_, _≤_}
+use Prim.Native.Nat.{ℕ, _+_, _-_, _*_, _≤_}
 use native.Mathlib.Omega.{arith}
-use lib.Dec.{eqb, ltb}
+use lib.Dec.{ltb}
 use lib.ListN.{length}
 use borrow.Author.Tests.{eqb-true, ltb-true}
 use Rattle.octets.specs.Octets.{Bytes}
 use Rattle.pattern.specs.declared.token.Token.{Token}
 use Rattle.pattern.specs.declared.token.Token.the-variants.{Open, Bar, Close, Star, Any, Byte, Backslash}
-use Rattle.pattern.specs.declared.Match.{Match}
 use Rattle.pattern.specs.Tokens.{tokens}
 use Rattle.pattern.specs.Syntax.{starFits, fits, valid}
 use Rattle.pattern.specs.Parts.{parts}
 use Rattle.pattern.specs.Tree.{Seq, Level, outside, inside, above, onSeq, grow, tree, sequence, treeOf}
-use Rattle.pattern.specs.Answer.{outcome, whole, stepsOf, tooLong, answer, accepted}
+use Rattle.pattern.specs.Answer.{outcome, stepsOf, tooLong, answer, accepted}
 use Rattle.pattern.specs.Checking.{tokensAt}
 use Rattle.pattern.proofs.Answers.{answer-invalid, answer-long, answer-short, accepted-long}
 use Rattle.pattern.proofs.Bound.{steps-sequence}

@@ -1,6 +1,6 @@
 -- Levels: a sequence walked to its end, and groups left.
 use mathlib.Core.Path.{_≡_, refl, sym, ap, _∙_}
-use Prim.Native.Nat.{ℕ, zero, suc, _+_, _-_, _<_, _≤_}
+use Prim.Native.Nat.{ℕ, zero, suc, _+_, _-_, _≤_}
 use native.Mathlib.Numerals.{add-one}
 use native.Mathlib.Omega.{arith}
 use Rattle.pattern.specs.Parts.{one, opening, bar, closing}
@@ -9,7 +9,7 @@ use Rattle.pattern.specs.Tree.{done, _▸_, last, _or_, outside, inside,
 use Rattle.pattern.specs.Tree.{grow, first, sequence}
 use Rattle.pattern.specs.declared.element.Simple.{Simple}
 use Rattle.pattern.specs.Places.{Starts}
-use Rattle.pattern.specs.Walking.{ended, Continues, PastGroup, NextBranch}
+use Rattle.pattern.specs.Walking.{ended, Continues, NextBranch}
 use Rattle.pattern.specs.declared.walk.Turn.the-variants.{Another, Over}
 
 pub sequence-on : (e : Elem) (l : Level) → sequence (onSeq (_▸_ e) l) ≡ e ▸ sequence l

@@ -12,10 +12,10 @@ use Rattle.pattern.specs.declared.element.Simple.{Simple}
 use Rattle.pattern.specs.Parts.{one, opening, bar, closing}
 use Rattle.pattern.specs.Tree.{Elem, Level, simple, group, done, _▸_, outside}
 use Rattle.pattern.specs.Tree.{branches, onSeq, grow, first, sequence}
-use Rattle.pattern.specs.Matching.{hit, miss, more, andThen, simpleM, elemM, seqM}
+use Rattle.pattern.specs.Matching.{more, andThen, simpleM, elemM, seqM}
 use Rattle.pattern.specs.Answer.{stepsOf}
 use Rattle.pattern.specs.Places.{reported, Took, Starts}
-use Rattle.pattern.specs.Walking.{ended, Reports, Walked, WalkedOver}
+use Rattle.pattern.specs.Walking.{ended, Walked, WalkedOver}
 use Rattle.pattern.proofs.Outcomes.{more-zero, more-more, steps-more, steps-reported, steps-then}
 use Rattle.pattern.proofs.Levels.{sequence-on, ended-on}
 

@@ -2,7 +2,7 @@
 use Prim.Native.Nat.{ℕ}
 use mathlib.Core.Path.{_≡_, refl}
 use mathlib.Core.List.{List, [], _∷_, _++_, map}
-use mathlib.Core.Bool.{Bool, false}
+use mathlib.Core.Bool.{Bool}
 use lib.ListN.{replicate}
 use Rattle.octets.specs.Octets.{Bytes, ascii}
 use Rattle.pattern.specs.declared.Match.{Match}

@@ -1,7 +1,7 @@
 -- Matching and its steps: document 01, "Patterns", from "Matching goes left to right by bytes" to "Nothing else costs."
 use Prim.Native.Nat.{ℕ, _+_}
-use mathlib.Core.List.{List, [], _∷_}
-use mathlib.Core.Bool.{Bool, true, false, cond}
+use mathlib.Core.List.{[], _∷_}
+use mathlib.Core.Bool.{Bool, true, cond}
 use lib.Dec.{eqb}
 use Rattle.octets.specs.Octets.{Bytes}
 use Rattle.pattern.specs.declared.element.Simple.{Simple}

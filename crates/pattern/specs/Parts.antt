@@ -1,7 +1,6 @@
 -- A pattern's tokens as parts, each `*` put together with what stands after it (document 01, "Patterns"). Parts are
 -- defined for every pattern: in an invalid one a `*` before `*`, `(` or a last `\` takes the rest, and a last `\` is
 -- the byte `\`.
-use Prim.Native.Nat.{ℕ}
 use mathlib.Core.List.{List, [], _∷_}
 use Rattle.pattern.specs.declared.token.Token.{Token}
 use Rattle.pattern.specs.declared.token.Token.the-variants.{Open, Bar, Close, Star, Any, Byte, Backslash}

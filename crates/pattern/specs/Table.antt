@@ -4,7 +4,7 @@ use Prim.Native.String.{String}
 use mathlib.Core.Path.{_≡_, refl}
 use mathlib.Core.List.{List, [], _∷_, map}
 use mathlib.Core.Bool.{Bool, true, false}
-use Rattle.octets.specs.Octets.{Bytes, ascii}
+use Rattle.octets.specs.Octets.{ascii}
 use Rattle.pattern.specs.declared.Match.{Match}
 use Rattle.pattern.specs.Tokens.{single, tokens}
 use Rattle.pattern.specs.Syntax.{starFits, fits, valid}

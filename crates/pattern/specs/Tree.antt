@@ -1,7 +1,6 @@
 -- What a pattern is made of (document 01, "Patterns"): a sequence of elements. A group is an element, and its branches
 -- are sequences. The tree is made of the parts from right to left. It is defined for every pattern: in an invalid one a
 -- group that is left open ends at the pattern's end, and the pattern ends at a `|` or `)` outside every group.
-use Prim.Native.Nat.{ℕ}
 use mathlib.Core.List.{List, [], _∷_}
 use Rattle.octets.specs.Octets.{Bytes}
 use Rattle.pattern.specs.declared.element.Simple.{Simple}

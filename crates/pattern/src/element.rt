@@ -1,5 +1,4 @@
 // What one element takes of a key.
-ghost use mathlib.Core.Path.{_≡_};
 ghost use Prim.Native.Nat.{_≤_};
 ghost use lib.ListN.{length};
 ghost use Rattle.pattern.specs.Matching;

@@ -2,7 +2,7 @@
 -- and a payload. `Protocol` is what other crates define of it: reading, writing and matching. The simple server is
 -- defined over any of them.
 use Prim.Native.Nat.{ℕ, _+_}
-use mathlib.Core.List.{List, [], _∷_, _++_}
+use mathlib.Core.List.{[], _∷_, _++_}
 use mathlib.Core.Bool.{Bool}
 use mathlib.Core.Option.{Option, some, none}
 use Rattle.octets.specs.Octets.{Bytes, ascii}

@@ -1,19 +1,15 @@
 -- What the operations on a region ask and promise. Each keeps the region's length, and says which rule holds of the
 -- region afterwards and what it then means, by a definition of Meaning applied to what it meant before.
 use mathlib.Core.Path.{_≡_}
-use mathlib.Core.Bool.{Bool}
-use mathlib.Core.List.{_++_}
-use Prim.Native.Nat.{ℕ, _+_, _≤_, _<_}
-use lib.Dec.{leb}
+use Prim.Native.Nat.{ℕ, _≤_}
 use lib.ListN.{length}
 use lib.Seq.{sets}
 use Rattle.octets.specs.Octets.{Bytes}
-use Rattle.octets.specs.Number.{bigEndian}
 use Rattle.protocol.specs.declared.Kind.{Kind}
 use Rattle.protocol.specs.declared.Refusal.{Refusal}
-use Rattle.queue.specs.Rows.{row, firstLength, firstMessage}
-use Rattle.queue.specs.Meaning.{Queue, queueWith, kept, keptRows, empty, taken, owing, settled, shut}
-use Rattle.queue.specs.Region.{InStep, AtRest, head, tail, pendingEnd, flag, room, queuedOf, queueOf}
+use Rattle.queue.specs.Rows.{firstLength, firstMessage}
+use Rattle.queue.specs.Meaning.{Queue, empty, taken, owing, settled, shut}
+use Rattle.queue.specs.Region.{InStep, AtRest, room, queuedOf, queueOf}
 
 -- the region q has become q′, for which the rule holds and which means s
 pub record Outcome (Rule : Type 0) (q q′ : Bytes) (s : Queue) : Type 0 where

@@ -14,7 +14,7 @@ use Rattle.octets.specs.Options.{isSome}
 use Rattle.octets.proofs.Parts.{length-part}
 use Rattle.protocol.specs.Terms.{Action, payload}
 use Rattle.server.specs.State.{recordingCharge, recordingFits}
-use Rattle.recording.specs.Command.{commands, rowsFine}
+use Rattle.recording.specs.Command.{rowsFine}
 use Rattle.recording.specs.Region.{stateOf, usedOf, countOf, roomOf, rowsOf, recorded, recordingOf, sized}
 use Rattle.recording.specs.Region.{stateFine, recordingFine}
 use Rattle.recording.specs.Contracts.{Fits}

@@ -12,7 +12,7 @@ use Rattle.octets.specs.Number.{numberAt}
 use Rattle.octets.proofs.Parts.{drop-part, getD-part, part-part}
 use Rattle.octets.proofs.Numbers.{numberAt-part}
 use Rattle.protocol.specs.Terms.{Action, commandId, payload}
-use Rattle.recording.specs.Command.{actionOf, rowSize, rowPayload, commandAt, commands, offsetOf}
+use Rattle.recording.specs.Command.{actionOf, rowSize, rowPayload, commandAt, offsetOf}
 use Rattle.recording.specs.Command.{rowsFine}
 use Rattle.recording.specs.Region.{usedOf, countOf, rowsOf, recorded, recordingFine}
 use Rattle.recording.specs.Turn.{earlier}

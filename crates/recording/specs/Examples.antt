@@ -1,13 +1,13 @@
 -- Worked examples of this crate's definitions, by computation, refusals included.
 use mathlib.Core.Path.{_≡_, refl}
-use mathlib.Core.List.{List, [], _∷_, _++_}
+use mathlib.Core.List.{List, [], _∷_}
 use mathlib.Core.Bool.{Bool, true, false}
 use mathlib.Core.Option.{Option, some, none}
 use Prim.Native.Nat.{ℕ}
 use Rattle.octets.specs.Octets.{Bytes, ascii, firstNul}
 use Rattle.octets.specs.Order.{same}
 use Rattle.octets.specs.Number.{digits, number, numberAt, bigEndian}
-use Rattle.protocol.specs.Terms.{Action, write, ping, payload, valueTail}
+use Rattle.protocol.specs.Terms.{write, ping, payload, valueTail}
 use Rattle.recording.specs.Command.{valueBehind, writeFrom, actionOf, commandFine, rowOf, rowSize, rowPayload}
 use Rattle.recording.specs.Command.{commandAt, rowFine, commands, rowsFine}
 use Rattle.recording.specs.Region.{stateOf, usedOf, countOf, rowsOf, recorded, recordingOf, sized, stateFine}

@@ -1,7 +1,6 @@
 // The rows of recorded commands: one row at an offset, and whether bytes are so many whole rows.
 ghost use mathlib.Core.Path.{_≡_};
-ghost use mathlib.Core.Bool.{Bool, true};
-ghost use Prim.Native.Nat.{ℕ, _+_, _≤_};
+ghost use Prim.Native.Nat.{_+_, _≤_};
 ghost use lib.ListN.{length, drop};
 ghost use Rattle.protocol.specs.Terms.{commandId, payload};
 ghost use Rattle.recording.specs.Command.{commandFine, commandAt, rowSize, rowFine, rowsFine};

@@ -1,8 +1,7 @@
 // The commit's look-up: what a command finds for a key at its turn.
 ghost use mathlib.Core.Path.{_≡_};
-ghost use mathlib.Core.Bool.{Bool, true};
-ghost use Prim.Native.Nat.{ℕ, _+_, _≤_};
-ghost use lib.ListN.{length};
+ghost use mathlib.Core.Bool.{true};
+ghost use Prim.Native.Nat.{_+_};
 ghost use Rattle.octets.specs.Order.{same};
 ghost use Rattle.recording.specs.Command.{keyIn};
 ghost use Rattle.recording.specs.Turn.{bodyAtTurn};

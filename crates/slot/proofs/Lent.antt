@@ -1,36 +1,34 @@
 -- What an operation makes of a slot when code lends it a region of the slot and the region comes back.
-use mathlib.Core.Path.{_≡_, refl, sym, ap, _∙_}
+use mathlib.Core.Path.{_≡_, ap}
 use mathlib.Core.List.{List, [], _∷_, _++_}
-use mathlib.Core.Bool.{Bool, true, false, cond}
-use mathlib.Core.Option.{Option, some, none}
-use Prim.Native.Nat.{ℕ, _+_, _-_, _/_, _≤_, _<_}
+use mathlib.Core.Bool.{Bool, true, false}
+use mathlib.Core.Option.{Option, some}
+use Prim.Native.Nat.{ℕ, _+_, _-_, _≤_}
 use native.Mathlib.Numerals.{add-one}
 use native.Mathlib.Omega.{arith}
 use lib.Dec.{leb, ltb}
 use lib.ListN.{length, take, drop, length-append}
-use borrow.Author.Tests.{le-leb, lt-leb, lt-ltb, le-ltb}
+use borrow.Author.Tests.{le-leb}
 use borrow.Rule.Slice.PartMut.{putMid}
 use Rattle.octets.specs.Octets.{Bytes}
-use Rattle.octets.specs.Part.{part}
 use Rattle.octets.specs.Options.{isSome}
-use Rattle.protocol.specs.Terms.{Action, Message, payload}
+use Rattle.protocol.specs.Terms.{Action, Message}
 use Rattle.protocol.specs.declared.Kind.{Kind}
 use Rattle.message.specs.Forms.{written}
 use Rattle.server.specs.Patterns.{Patterns, held, addPattern}
-use Rattle.server.specs.State.{recordingFits}
 use Rattle.queue.specs.Meaning.{Queue, owing}
 use Rattle.queue.specs.Region.{InStep, queueOf, room}
 use Rattle.queue.specs.Post.{Outcome}
 use Rattle.recording.specs.Command.{actionOf}
-use Rattle.recording.specs.Region.{recordingFine, recordingOf, sized}
+use Rattle.recording.specs.Region.{sized}
 use Rattle.recording.specs.Region as recordings
 use Rattle.recording.specs.Contracts as recording
 use Rattle.recording.proofs.Regions.{fine-rules, on-some}
-use Rattle.subscriptions.specs.Region.{subscriptionsFine, patternsOf}
+use Rattle.subscriptions.specs.Region.{patternsOf}
 use Rattle.subscriptions.specs.Contracts as subscriptions
 use Rattle.subscriptions.proofs.Cells.{length-patternsOf}
 use Rattle.subscriptions.proofs.Cells as cells
-use Rattle.slot.specs.Image.{ClientImage, used, withPatterns, withRecording, recorded, commandsOf, withQueue, owed}
+use Rattle.slot.specs.Image.{used, withPatterns, withRecording, recorded, commandsOf, withQueue, owed}
 use Rattle.slot.specs.Region.{phaseOf, kindByte, subscriptionsPart, recordingPart, queuePart, kindNumbered, clientOf}
 use Rattle.slot.specs.Region.{reserveOf, ClientRules}
 use Rattle.slot.specs.Contracts.{roomOf, HasClient, HasOpen, Becomes, Fits, Recordable, Addable}

@@ -1,11 +1,10 @@
 -- What the rules of a slot with a client say of its image: how much is queued, how many patterns are held, what is recorded.
-use mathlib.Core.Path.{_≡_, refl, sym, ap, _∙_}
-use mathlib.Core.List.{List, [], _∷_}
-use mathlib.Core.Bool.{Bool, true, false, _&&_}
-use mathlib.Core.Option.{Option, some, none}
-use Prim.Native.Nat.{ℕ, _+_, _-_, _/_, _≤_}
+use mathlib.Core.Path.{_≡_, sym, ap, _∙_}
+use mathlib.Core.List.{List}
+use mathlib.Core.Bool.{true}
+use mathlib.Core.Option.{Option, some}
+use Prim.Native.Nat.{ℕ, _+_, _-_, _≤_}
 use native.Mathlib.Omega.{arith}
-use lib.Dec.{eqb, leb}
 use lib.ListN.{length}
 use borrow.Author.Tests.{eqb-true, le-leb}
 use Rattle.octets.specs.Octets.{Bytes}
@@ -14,15 +13,15 @@ use Rattle.octets.specs.Options.{isSome}
 use Rattle.octets.proofs.Parts.{length-part}
 use Rattle.protocol.specs.Terms.{Action}
 use Rattle.server.specs.State.{recordingCharge, recordingFits}
-use Rattle.queue.specs.Meaning.{Pending, kept, keptRows, isOverflown}
-use Rattle.queue.specs.Region.{InStep, queuedOf, pendingOf, head, tail, pendingEnd, room}
+use Rattle.queue.specs.Meaning.{kept, keptRows, isOverflown}
+use Rattle.queue.specs.Region.{InStep, pendingOf, tail, pendingEnd}
 use Rattle.queue.proofs.Regions.{length-queuedOf, pendingOf-kept, kept-flag}
 use Rattle.recording.specs.Region.{recordingOf, usedOf, countOf}
 use Rattle.recording.specs.Region as recordings
 use Rattle.recording.proofs.Tests.{and-true-true}
 use Rattle.recording.proofs.Regions.{fine-rules, used-charge, count-recorded, on-some}
-use Rattle.slot.specs.Image.{ClientImage, commandsOf}
-use Rattle.slot.specs.Region.{phaseOf, recordingPart, queuePart, clientOf, reserveOf, Bare, ClientRules}
+use Rattle.slot.specs.Image.{commandsOf}
+use Rattle.slot.specs.Region.{phaseOf, recordingPart, clientOf, Bare}
 use Rattle.slot.specs.Contracts.{roomOf, HasClient, HasOpen}
 use Rattle.slot.proofs.Operations.{length-recordingPart, room-queuePart, open-queue}
 use Rattle.slot.proofs.Lent.{few-patterns}

@@ -1,25 +1,23 @@
 -- What an operation on one region, or on a head byte, makes of a slot with a client.
-use mathlib.Core.Path.{_≡_, refl, sym, ap, _∙_}
-use mathlib.Core.List.{List, [], _∷_, _++_}
-use mathlib.Core.Bool.{Bool, true, false, cond}
-use mathlib.Core.Option.{Option, some, none}
-use Prim.Native.Nat.{ℕ, _+_, _-_, _/_, _≤_, _<_}
+use mathlib.Core.Path.{_≡_, refl, ap, _∙_}
+use mathlib.Core.List.{List, [], _∷_}
+use mathlib.Core.Bool.{true}
+use mathlib.Core.Option.{Option, none}
+use Prim.Native.Nat.{ℕ, _+_, _-_, _/_, _≤_}
 use native.Mathlib.Omega.{arith}
-use lib.Dec.{eqb}
 use lib.ListN.{length, take, drop, set, length-drop}
 use lib.Seq.{sets, length-sets, getD-set-same, take-all}
-use borrow.Author.Tests.{eq-eqb, ne-eqb, le-leb}
+use borrow.Author.Tests.{le-leb}
 use borrow.Rule.Slice.PartMut.{putMid}
 use Rattle.octets.specs.Octets.{Bytes}
-use Rattle.octets.specs.Part.{part}
 use Rattle.octets.proofs.Parts.{length-part, lent-part}
-use Rattle.protocol.specs.Terms.{Action, error}
+use Rattle.protocol.specs.Terms.{Action}
 use Rattle.protocol.specs.declared.Kind.{Kind}
 use Rattle.protocol.specs.declared.Kind.the-variants.{Packets, Stream, Framed, Text}
 use Rattle.protocol.specs.declared.Refusal.{Refusal}
 use Rattle.server.specs.Patterns.{Patterns}
 use Rattle.queue.specs.Meaning as Q
-use Rattle.queue.specs.Meaning.{Queue, kept}
+use Rattle.queue.specs.Meaning.{Queue}
 use Rattle.queue.specs.Region.{InStep, AtRest, queueOf, room}
 use Rattle.queue.specs.Post.{Outcome, Clearing}
 use Rattle.recording.specs.Region.{recordingFine, recordingOf, sized}
@@ -27,10 +25,10 @@ use Rattle.recording.specs.Contracts as recording
 use Rattle.recording.proofs.Regions as R
 use Rattle.subscriptions.specs.Region.{subscriptionsFine, patternsOf}
 use Rattle.subscriptions.specs.Contracts as subscriptions
-use Rattle.slot.specs.Image.{ClientImage, SlotImage, free, used, opened, withKind, withPatterns, withRecording}
+use Rattle.slot.specs.Image.{free, used, opened, withKind, withPatterns, withRecording}
 use Rattle.slot.specs.Image.{withQueue, refused}
-use Rattle.slot.specs.Region.{phaseOf, kindByte, subscriptionsPart, recordingPart, queuePart, kindNumber, kindNumbered, clientOf, slotOf}
-use Rattle.slot.specs.Region.{reserveOf, ClientRules}
+use Rattle.slot.specs.Region.{phaseOf, kindByte, subscriptionsPart, recordingPart, queuePart, kindNumber, kindNumbered, clientOf}
+use Rattle.slot.specs.Region.{reserveOf}
 use Rattle.slot.specs.Contracts.{roomOf, HasClient, HasOpen, Sized, Becomes, Stripping}
 use Rattle.slot.proofs.Slots.{Holds, holds, holds-subscriptions, holds-recording, holds-queue, holds-phase, holds-kind}
 use Rattle.slot.proofs.Slots.{image, Fine, client-fine, open-fine, slotOf-free, becomes}

@@ -1,18 +1,16 @@
 -- The laws of what a slot means: from its image to its rules, between steps and in a step.
 use mathlib.Core.Path.{_≡_, refl, sym, ap, _∙_}
-use mathlib.Core.List.{List, [], _∷_, _++_}
-use mathlib.Core.Bool.{Bool, true, false, cond, not, _&&_, true≢false}
-use mathlib.Core.Option.{Option, some, none}
-use Prim.Native.Nat.{ℕ, _+_, _-_, _/_, _≤_, _<_}
+use mathlib.Core.List.{[]}
+use mathlib.Core.Bool.{Bool, true, false, cond, true≢false}
+use Prim.Native.Nat.{ℕ, _+_, _-_}
 use native.Mathlib.Omega.{arith}
-use lib.Dec.{eqb, leb}
-use lib.ListN.{length, take, drop}
-use borrow.Author.Tests.{eq-eqb, ne-eqb, eqb-true, eqb-false, le-leb, leb-true}
+use lib.Dec.{eqb}
+use lib.ListN.{length, take}
+use borrow.Author.Tests.{eq-eqb, eqb-true, eqb-false}
 use Rattle.octets.specs.Octets.{Bytes}
 use Rattle.octets.specs.Part.{part}
-use Rattle.octets.specs.Options.{isSome}
 use Rattle.octets.proofs.Parts.{length-part}
-use Rattle.protocol.specs.Terms.{Action, Message, Protocol}
+use Rattle.protocol.specs.Terms.{Protocol}
 use Rattle.protocol.specs.declared.Refusal.the-variants.{Room}
 use Rattle.message.specs.Writing.{said}
 use Rattle.message.specs.declared.Message.the-variants.{Info}
@@ -20,19 +18,18 @@ use Rattle.pattern.specs.Answer.{accepted}
 use Rattle.server.specs.Patterns.{Patterns}
 use Rattle.server.specs.Step.{subscribed}
 use Rattle.queue.specs.Meaning as Q
-use Rattle.queue.specs.Meaning.{Pending, kept, overflown, Queue, isOverflown, keptRows}
-use Rattle.queue.specs.Region.{InStep, AtRest, queueFine, queueOf, queuedOf, pendingOf, pendingEnd, tail, room}
-use Rattle.queue.proofs.Regions.{fine-rest, rest-fine, at-rest-less, length-queuedOf, pendingOf-kept, pendingOf-rest, kept-flag}
-use Rattle.recording.specs.Region.{recordingFine, recordingOf}
-use Rattle.recording.proofs.Tests.{either, and-both, and-true-true}
-use Rattle.subscriptions.specs.Region.{subscriptionsFine, patternsOf, matching}
+use Rattle.queue.specs.Meaning.{Pending, kept, overflown, isOverflown, keptRows}
+use Rattle.queue.specs.Region.{InStep, AtRest, queueOf, pendingOf, pendingEnd, tail}
+use Rattle.queue.proofs.Regions.{at-rest-less, pendingOf-kept, kept-flag}
+use Rattle.recording.proofs.Tests.{either}
+use Rattle.subscriptions.specs.Region.{patternsOf, matching}
 use Rattle.subscriptions.proofs.Lists.{subscribed-matches}
-use Rattle.slot.specs.Image.{ClientImage, SlotImage, free, used, withQueue, refused, owed, notified, settledBy, settled, onClient, Resting}
-use Rattle.slot.specs.Region.{phaseOf, kindByte, subscriptionsPart, recordingPart, queuePart, clientOf, slotOf}
-use Rattle.slot.specs.Region.{reserveOf, Bare, ClientRules, SlotRules, isBare, clientFine, slotFine}
-use Rattle.slot.specs.Contracts.{roomOf, HasClient, HasResting, HasOpen, Becomes}
+use Rattle.slot.specs.Image.{ClientImage, SlotImage, free, used, withQueue, refused, owed, notified, settledBy, settled, onClient}
+use Rattle.slot.specs.Region.{phaseOf, subscriptionsPart, queuePart, clientOf, slotOf}
+use Rattle.slot.specs.Region.{reserveOf, SlotRules}
+use Rattle.slot.specs.Contracts.{HasClient, HasResting, HasOpen, Becomes}
 use Rattle.slot.proofs.Slots.{slotOf-used, slotOf-free}
-use Rattle.slot.proofs.Operations.{open-client, open-reserve, room-queuePart}
+use Rattle.slot.proofs.Operations.{open-client}
 
 -- ---- nothing is pending
 

@@ -1,32 +1,27 @@
 -- The laws of a slot: what its regions and its two head bytes are after a write to one of them, and what the slot then means.
 use mathlib.Core.Path.{_≡_, refl, sym, ap, _∙_}
-use mathlib.Core.List.{List, [], _∷_, _++_}
-use mathlib.Core.Bool.{Bool, true, false, cond}
-use mathlib.Core.Option.{Option, some, none}
-use Prim.Native.Nat.{ℕ, _+_, _-_, _/_, _≤_, _<_}
+use mathlib.Core.List.{[], _∷_}
+use mathlib.Core.Bool.{true}
+use mathlib.Core.Option.{none}
+use Prim.Native.Nat.{ℕ, _+_, _-_, _≤_}
 use native.Mathlib.Nat.{add-zero}
 use native.Mathlib.Omega.{arith}
-use lib.Dec.{eqb, leb}
-use lib.ListN.{length, take, drop, getD, set, length-drop}
+use lib.Dec.{eqb}
+use lib.ListN.{length, drop, set}
 use lib.Seq.{sets, length-sets, getD-set-same}
 use borrow.Author.Tests.{eq-eqb, ne-eqb}
 use Rattle.octets.specs.Octets.{Bytes}
-use Rattle.octets.specs.Part.{part}
-use Rattle.octets.proofs.Parts.{length-part, drop-sets, drop-sets-add, part-sets-same, sets-whole, part-sets-before}
+use Rattle.octets.proofs.Parts.{drop-sets, drop-sets-add, part-sets-same, sets-whole, part-sets-before}
 use Rattle.octets.proofs.Parts.{part-sets-after, getD-sets-before, getD-sets-after}
-use Rattle.protocol.specs.Terms.{Action}
-use Rattle.protocol.specs.declared.Kind.{Kind}
-use Rattle.server.specs.Patterns.{Patterns}
-use Rattle.queue.specs.Meaning.{Queue}
-use Rattle.queue.specs.Region.{InStep, queueOf, room}
+use Rattle.queue.specs.Region.{InStep, queueOf}
 use Rattle.recording.specs.Region.{recordingFine, recordingOf}
 use Rattle.recording.specs.Contracts as recording
 use Rattle.subscriptions.specs.Region.{subscriptionsFine, patternsOf}
 use Rattle.subscriptions.specs.Contracts as subscriptions
-use Rattle.slot.specs.Image.{ClientImage, SlotImage, free, used, withKind, withPatterns, withRecording, withQueue}
+use Rattle.slot.specs.Image.{ClientImage, free, used}
 use Rattle.slot.specs.Region.{phaseOf, kindByte, subscriptionsPart, recordingPart, queuePart, kindNumbered, clientOf, slotOf}
-use Rattle.slot.specs.Region.{reserveOf, Bare, ClientRules}
-use Rattle.slot.specs.Contracts.{roomOf, HasClient, HasOpen, Becomes}
+use Rattle.slot.specs.Region.{reserveOf, ClientRules}
+use Rattle.slot.specs.Contracts.{HasClient, Becomes}
 
 -- ---- the parts of a slot
 

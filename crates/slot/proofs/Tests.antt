@@ -1,7 +1,7 @@
 -- The test of a slot is true just where its rules hold and nothing is pending.
 use mathlib.Core.Path.{_≡_, refl, sym, ap, _∙_}
 use mathlib.Core.List.{List, [], _∷_}
-use mathlib.Core.Bool.{Bool, true, false, cond, not, _&&_, true≢false}
+use mathlib.Core.Bool.{Bool, true, false, cond, not, true≢false}
 use mathlib.Core.Option.{Option, some, none}
 use Prim.Native.Nat.{ℕ, _+_, _≤_}
 use native.Mathlib.Omega.{arith}
@@ -12,18 +12,17 @@ use Rattle.octets.specs.Octets.{Bytes}
 use Rattle.octets.specs.Options.{isSome}
 use Rattle.protocol.specs.Terms.{Action}
 use Rattle.server.specs.Patterns.{Patterns}
-use Rattle.queue.specs.Meaning.{kept}
 use Rattle.queue.specs.Region.{AtRest, queueFine}
 use Rattle.queue.proofs.Regions.{fine-rest, rest-fine, pendingOf-rest}
 use Rattle.recording.specs.Region.{recordingFine}
 use Rattle.recording.proofs.Tests.{either, and-both, and-true-true}
 use Rattle.subscriptions.specs.Region.{subscriptionsFine}
-use Rattle.slot.specs.Image.{ClientImage, used, Resting}
+use Rattle.slot.specs.Image.{ClientImage, Resting}
 use Rattle.slot.specs.Region.{phaseOf, kindByte, subscriptionsPart, recordingPart, queuePart, clientOf, slotOf}
 use Rattle.slot.specs.Region.{reserveOf, Bare, ClientRules, SlotRules, isBare, regionsFine, clientFine, slotFine}
-use Rattle.slot.specs.Contracts.{HasClient, Regioned}
+use Rattle.slot.specs.Contracts.{Regioned}
 use Rattle.slot.proofs.Slots.{slotOf-used}
-use Rattle.slot.proofs.Resting.{used-phase, clientOf-used, resting-queue, rest-pending}
+use Rattle.slot.proofs.Resting.{used-phase, clientOf-used, rest-pending}
 
 -- ---- the regions
 

@@ -1,17 +1,15 @@
 -- Examples of what a step makes of a client: with room a message that is owed is queued at the step's end, without it the client is shut
 -- with 102; a shut client is owed nothing and stays as it is.
 use mathlib.Core.Path.{_≡_, refl}
-use mathlib.Core.Bool.{true, false}
-use mathlib.Core.List.{[], _∷_, _++_}
-use mathlib.Core.Option.{some, none}
+use mathlib.Core.List.{[], _∷_}
 use Rattle.octets.specs.Number.{bigEndian}
-use Rattle.protocol.specs.Terms.{version, error, messagePayload}
+use Rattle.protocol.specs.Terms.{version, messagePayload}
 use Rattle.protocol.specs.declared.Kind.the-variants.{Packets}
 use Rattle.protocol.specs.declared.Refusal.the-variants.{Room, State}
 use Rattle.message.specs.Forms.{written, encoded, form}
 use Rattle.queue.specs.Rows.{row}
-use Rattle.queue.specs.Meaning.{kept, fits, owed as owedTo, keptRows}
-use Rattle.slot.specs.Image.{ClientImage, free, opened, owed, refused, settledBy, settled, notified, onClient, withQueue, withPatterns}
+use Rattle.queue.specs.Meaning.{fits, owed as owedTo, keptRows}
+use Rattle.slot.specs.Image.{free, opened, owed, refused, settledBy, settled, notified, onClient, withQueue, withPatterns}
 
 -- a queue room of 1,024 bytes holds a VERSION
 settled-version : settled (owed 1024 version (opened Packets)) .queue .queued ≡ row (written Packets version)

@@ -3,10 +3,10 @@
 --   4,104 recording (12 + R bytes), 4,116 + R queue (16 + 2 × Q bytes)
 -- A free slot has no rule. R is the record room; Q follows from the slot's length.
 use mathlib.Core.Path.{_≡_}
-use mathlib.Core.List.{List, []}
-use mathlib.Core.Bool.{Bool, true, false, cond, not, _&&_}
-use mathlib.Core.Option.{Option, none}
-use Prim.Native.Nat.{ℕ, _+_, _*_, _≤_}
+use mathlib.Core.List.{[]}
+use mathlib.Core.Bool.{Bool, true, cond, not, _&&_}
+use mathlib.Core.Option.{none}
+use Prim.Native.Nat.{ℕ, _+_, _≤_}
 use lib.Dec.{eqb, leb}
 use lib.ListN.{length, drop, getD}
 use Rattle.octets.specs.Octets.{Bytes}
@@ -14,8 +14,7 @@ use Rattle.octets.specs.Part.{part}
 use Rattle.octets.specs.Options.{isSome}
 use Rattle.protocol.specs.declared.Kind.{Kind}
 use Rattle.protocol.specs.declared.Kind.the-variants.{Packets, Stream, Framed, Text}
-use Rattle.queue.specs.Meaning.{Queue}
-use Rattle.queue.specs.Region.{InStep, queueFine, queueOf, room}
+use Rattle.queue.specs.Region.{InStep, queueFine, queueOf}
 use Rattle.recording.specs.Region.{recordingFine, recordingOf}
 use Rattle.subscriptions.specs.Region.{subscriptionsFine, patternsOf}
 use Rattle.slot.specs.Image.{ClientImage, SlotImage, free, used}

@@ -1,7 +1,6 @@
 // The patterns of a slot's client.
 use message::Message;
-ghost use mathlib.Core.Path.{_≡_};
-ghost use Prim.Native.Nat.{ℕ, _+_, _≤_};
+ghost use Prim.Native.Nat.{_≤_};
 ghost use lib.ListN.{length};
 ghost use Rattle.slot.specs.Image.{used, notified, onClient};
 ghost use Rattle.slot.specs.Region.{SlotRules, clientOf, slotOf};

@@ -1,6 +1,6 @@
 // The rules of a slot between steps, as a test.
 ghost use mathlib.Core.Path.{_≡_};
-ghost use Prim.Native.Nat.{ℕ, _+_, _≤_};
+ghost use Prim.Native.Nat.{_+_, _≤_};
 ghost use lib.ListN.{length};
 ghost use Rattle.slot.specs.Region.{clientOf, reserveOf, isBare, regionsFine, clientFine, slotFine};
 ghost use Rattle.slot.specs.Contracts.{Regioned};

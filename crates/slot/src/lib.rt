@@ -26,7 +26,7 @@ pub use recordings::is_recording;
 pub use recordings::record;
 pub use recordings::record_fits;
 ghost use mathlib.Core.Path.{_≡_};
-ghost use Prim.Native.Nat.{ℕ, _+_, _≤_};
+ghost use Prim.Native.Nat.{_+_, _≤_};
 ghost use lib.Dec.{eqb};
 ghost use lib.ListN.{length};
 ghost use Rattle.slot.specs.Image.{used, opened, withKind};

@@ -3,7 +3,7 @@ use message::Message;
 use protocol::Refusal;
 ghost use mathlib.Core.Path.{_≡_};
 ghost use mathlib.Core.Bool.{not};
-ghost use Prim.Native.Nat.{ℕ, _+_, _≤_};
+ghost use Prim.Native.Nat.{_+_, _≤_};
 ghost use lib.ListN.{length};
 ghost use Rattle.message.specs.Writing.{said};
 ghost use Rattle.queue.specs.Rows.{isEmpty, firstLength};

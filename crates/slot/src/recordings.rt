@@ -2,7 +2,7 @@
 ghost use mathlib.Core.Path.{_≡_};
 ghost use mathlib.Core.List.{[]};
 ghost use mathlib.Core.Option.{some, none};
-ghost use Prim.Native.Nat.{ℕ, _+_, _≤_};
+ghost use Prim.Native.Nat.{_+_};
 ghost use Rattle.octets.specs.Options.{isSome};
 ghost use Rattle.recording.specs.Command.{actionOf};
 ghost use Rattle.slot.specs.Image.{used, withRecording, recorded};

@@ -10,7 +10,7 @@ use Rattle.slot.specs.Image.{ClientImage, onClient}
 use Rattle.memory.specs.Layout.{sizesOf, stride, slotsStart, slotStart}
 use Rattle.memory.specs.Image.{Image, imageOf, withSlots, onSlot, onSlots}
 use Rattle.memory.specs.Rules.{Sound, Becomes}
-use Rattle.memory.specs.Contracts.{InSlot, Bounds, ChangesAt}
+use Rattle.memory.specs.Contracts.{Bounds, ChangesAt}
 use Rattle.memory.proofs.Updates.{slot-within}
 use Rattle.memory.proofs.Lent.{length-slots}
 use Rattle.service.proofs.Ends.{becomes-same, becomes-as, becomes-sizes, becomes-then}

@@ -2,8 +2,8 @@
 // the rows one by one. An offset counts from the start of the room.
 ghost use mathlib.Core.Path.{_≡_};
 ghost use mathlib.Core.Bool.{true};
-ghost use Prim.Native.Nat.{ℕ, _+_, _≤_, _<_};
-ghost use lib.ListN.{length, drop};
+ghost use Prim.Native.Nat.{_+_, _≤_, _<_};
+ghost use lib.ListN.{drop};
 ghost use Rattle.store.specs.Row.{rowSize, keyOf, bodyOf, rowFine};
 ghost use Rattle.store.specs.Region.{usedOf, countOf, storeFine, storeOf};
 ghost use Rattle.store.specs.Index.{Indexes};

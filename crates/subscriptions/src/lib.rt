@@ -4,8 +4,8 @@
 // Internal layer: what a function requires is its callers' to show.
 ghost use mathlib.Core.Path.{_≡_};
 ghost use mathlib.Core.List.{[]};
-ghost use mathlib.Core.Bool.{Bool, true};
-ghost use Prim.Native.Nat.{ℕ, _+_, _≤_};
+ghost use mathlib.Core.Bool.{true};
+ghost use Prim.Native.Nat.{_+_};
 ghost use lib.ListN.{length};
 ghost use Rattle.server.specs.Patterns.{held, addPattern, removePattern};
 ghost use Rattle.server.specs.Step.{subscribed};

@@ -1,7 +1,6 @@
 -- `read_wire::show_lines`: what is shown is before i.
 use borrow.Author.Needs.{needs}
 use Prim.Native.Nat.{_≤_, _+_, _-_}
-use native.Mathlib.Omega.{arith}
 use lib.ListN.{length}
 use Rattle.read_wire.proofs.show_lines.Statement.{statement}
 use Rattle.read_wire.proofs.show_lines.Tie as tie

@@ -1,4 +1,4 @@
-use mathlib.Core.Path.{_≡_, refl, sym, ap, _∙_}
+use mathlib.Core.Path.{ap, _∙_}
 use native.Mathlib.Omega.{arith}
 use Rattle.slot.specs.Region.{kindNumbered}
 use Rattle.slot.proofs.Operations.{becomes-kind, kindNumber-most, kindNumbered-number}

@@ -1,6 +1,5 @@
 use borrow.Author.Tests.{eq-eqb, ne-eqb}
 use Rattle.slot.specs.Region.{kindNumbered}
-use borrow.Author.Needs.{needs}
 use Rattle.slot.proofs.kind_numbered.Statement.{statement}
 use Rattle.slot.proofs.kind_numbered.Tie as tie
 use Rattle.slot.proofs.kind_numbered.Reads as reads

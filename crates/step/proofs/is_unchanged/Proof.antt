@@ -1,8 +1,6 @@
 -- `step::is_unchanged` meets its contract.
-use mathlib.Core.Path.{_≡_, ap, _∙_}
+use mathlib.Core.Path.{_∙_}
 use native.Mathlib.Omega.{arith}
-use Prim.Native.Nat.{_<_}
-use lib.ListN.{length}
 use borrow.Author.Needs.{needs}
 use Rattle.store.specs.Region.{storeOf}
 use Rattle.store.proofs.Change.{found-row, found-none}

@@ -1,5 +1,3 @@
-use mathlib.Core.Path.{_≡_, refl, sym, ap, _∙_}
-use native.Mathlib.Omega.{arith}
 use Rattle.slot.specs.Image.{notified}
 use Rattle.slot.specs.Contracts.{roomOf}
 use Rattle.slot.proofs.Resting.{becomes-same, onClient-idle, onClient-open, notified-shut, rules-open}

@@ -1,7 +1,4 @@
-use mathlib.Core.Path.{_≡_, refl, sym, ap, _∙_}
-use native.Mathlib.Omega.{arith}
 use borrow.Author.Tests.{eq-eqb, ne-eqb}
-use borrow.Author.Needs.{needs}
 use Rattle.slot.proofs.fine.reserve.Statement.{statement}
 use Rattle.slot.proofs.fine.reserve.Tie as tie
 use Rattle.slot.proofs.fine.reserve.Reads as reads

@@ -1,5 +1,3 @@
-use mathlib.Core.Path.{_≡_, refl, sym, ap, _∙_}
-use native.Mathlib.Omega.{arith}
 use Rattle.slot.specs.Region.{clientOf}
 use Rattle.slot.proofs.Operations.{lent-queue}
 use Rattle.slot.proofs.Resting.{resting-queue-any}

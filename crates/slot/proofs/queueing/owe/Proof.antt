@@ -1,5 +1,3 @@
-use mathlib.Core.Path.{_≡_, refl, sym, ap, _∙_}
-use native.Mathlib.Omega.{arith}
 use Rattle.message.specs.Writing.{said}
 use Rattle.slot.proofs.Operations.{lent-queue, open-queue}
 use Rattle.slot.proofs.Lent.{lent-owed}

@@ -1,4 +1,4 @@
-use mathlib.Core.Path.{_≡_, refl, sym, ap, _∙_}
+use mathlib.Core.Path.{sym, _∙_}
 use native.Mathlib.Omega.{arith}
 use Rattle.queue.proofs.Regions.{in-step-less}
 use Rattle.slot.proofs.Operations.{lent-queue, open-queue, open-client, open-reserve}

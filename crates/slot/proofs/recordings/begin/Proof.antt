@@ -1,5 +1,3 @@
-use mathlib.Core.Path.{_≡_, refl, sym, ap, _∙_}
-use native.Mathlib.Omega.{arith}
 use Rattle.slot.proofs.Lent.{lent-sized, lent-record}
 use borrow.Author.Needs.{needs}
 use Rattle.slot.proofs.recordings.begin.Statement.{statement}

@@ -17,7 +17,7 @@ use Rattle.server.proofs.Tests.{either}
 use Rattle.store.specs.Row.{rowSize, keyOf, entryOf, rowFine}
 use Rattle.store.specs.Region.{follows, keyBefore, keyFollows, rowsFine, entries}
 use Rattle.store.specs.Index.{Boundary}
-use Rattle.store.specs.Walk.{Place, Passed, Failed}
+use Rattle.store.specs.Walk.{Reached, Passed, Failed}
 use Rattle.store.proofs.RowLaws.{sound, rowSize-charge}
 use Rattle.store.proofs.Split.{charge-append}
 
@@ -45,15 +45,15 @@ follows-next s prev at n = rw (keyBefore-next s prev at (omega arith))
 
 -- ---- a walk
 
-pub place-start : (s : Bytes) → Place s 0 0
-place-start s = record { within = omega arith; row-before = λ e. e }
+pub reached-start : (s : Bytes) → Reached s 0 0
+reached-start s = record { within = omega arith; row-before = λ e. e }
 
 -- no row
-pub passed-start : {s : Bytes} {prev at : ℕ} → Place s prev at → Passed s prev at 0 prev at
+pub passed-start : {s : Bytes} {prev at : ℕ} → Reached s prev at → Passed s prev at 0 prev at
 unfolding storeCharge
 passed-start {s} {prev} {at} p =
     record {
-      place = p;
+      reached = p;
       same-answer = λ more. ap (λ (n : ℕ). rowsFine (keyBefore s prev at) n (drop at s)) (zero-add more);
       between = [];
       whole = λ more. ap (λ (n : ℕ). entries n (drop at s)) (zero-add more);
@@ -70,12 +70,12 @@ module _ {s : Bytes} {prev at n prev′ at′ : ℕ} (p : Passed s prev at n pre
       let w = r .whole in
       let here = entryOf (drop at′ s) in
       let c = rowSize-charge (drop at′ s) r in
-      let l = p .place .within in
+      let l = p .reached .within in
       let k = p .distance in
       let a : storeCharge (p .between ++ (here ∷ [])) ≡ storeCharge (p .between) + storeCharge (here ∷ []) =
       charge-append (p .between) (here ∷ []) in
       record {
-        place = record { within = omega (arith, length-drop at′ s); row-before = λ _. e };
+        reached = record { within = omega (arith, length-drop at′ s); row-before = λ _. e };
         same-answer = λ more.
             let m : n + 1 + more ≡ n + suc more = omega arith in
             rw (m, keyBefore-next s at′ (at′ + rowSize (drop at′ s)) (omega arith))
@@ -119,7 +119,7 @@ module _ {s : Bytes} {prev at n prev′ at′ : ℕ} (p : Passed s prev at n pre
       let d = p .distance in
       let f = q .distance in
       record {
-        place = q .place;
+        reached = q .reached;
         same-answer = λ more.
             let m : n + k + more ≡ n + (k + more) = omega arith in
             rw m (p .same-answer (k + more) ∙ q .same-answer more);
@@ -159,7 +159,7 @@ passed-boundary {s} {n} {prev} {at} p left count e =
 pub passed-end : {s : Bytes} {n prev at : ℕ} → Passed s 0 0 n prev at → rowsFine none n s ≡ eqb at (length s)
 unfolding rowsFine
 passed-end {s} {n} {prev} {at} p =
-    let w = p .place .within in
+    let w = p .reached .within in
     let d = length-drop at s in
     rw (keyBefore-first s 0 0 refl, add-zero n) at (p .same-answer 0)
     ∙ either (eqb at (length s))

@@ -9,15 +9,15 @@ use Rattle.server.specs.Store.{Store, storeCharge}
 use Rattle.store.specs.Row.{rowFine}
 use Rattle.store.specs.Region.{keyBefore, rowsFine, entries}
 
--- an offset up to which the rows have passed; the last of them is at prev
-pub record Place (s : Bytes) (prev at : ℕ) : Type 0 where
+-- where a walk has come to: an offset within s, and if a row stands there, one stands at prev, which is before it
+pub record Reached (s : Bytes) (prev at : ℕ) : Type 0 where
   pub within : at ≤ length s
   pub row-before : rowFine (drop at s) ≡ true → rowFine (drop prev s) ≡ true
 
 -- n rows from offset `at` on pass, and the walk is at at′ behind the row at prev′: the answer for all rows from `at`
 -- on is the answer for those from at′ on, and the offsets are as far apart as the entries between them charge
 pub record Passed (s : Bytes) (prev at n prev′ at′ : ℕ) : Type 0 where
-  pub place : Place s prev′ at′
+  pub reached : Reached s prev′ at′
   pub same-answer : (more : ℕ)
       → rowsFine (keyBefore s prev at) (n + more) (drop at s) ≡ rowsFine (keyBefore s prev′ at′) more (drop at′ s)
   pub between : Store

@@ -9,7 +9,7 @@ ghost use lib.ListN.{drop};
 ghost use Rattle.store.specs.Row.{rowFine};
 ghost use Rattle.store.specs.Region.{keyFollows, rowsFine, storeFine, entries, storeOf};
 ghost use Rattle.store.specs.Index.{Indexes};
-ghost use Rattle.store.specs.Walk.{Place, Walked};
+ghost use Rattle.store.specs.Walk.{Reached, Walked};
 use crate::index::note;
 use crate::row;
 use octets::u32_at;
@@ -36,7 +36,7 @@ struct Walk {
 
 // Tests `count` rows from offset `from` on, behind the row at `before`.
 fn walk_rows(rows: &[u8], before: usize, from: usize, count: usize) -> Walk
-    requires { ⌜ Place (now rows) before from ⌝ }
+    requires { ⌜ Reached (now rows) before from ⌝ }
     ensures { λ w. ⌜ Walked (now (rows .entry)) before from count (w .fine) (w .prev) (w .at) ⌝ }
 {
     let mut at = from;

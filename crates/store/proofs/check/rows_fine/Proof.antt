@@ -10,7 +10,7 @@ use Rattle.store.specs.Region.{entries}
 use Rattle.store.specs.Index.{Indexes}
 use Rattle.store.specs.Walk.{Passed}
 use Rattle.store.proofs.Indexing.{unindexed, indexes-set}
-use Rattle.store.proofs.Walks.{place-start, passed-start, passed-append, failed-append}
+use Rattle.store.proofs.Walks.{reached-start, passed-start, passed-append, failed-append}
 use Rattle.store.proofs.Walks.{passed-boundary, passed-end, failed-end}
 use Rattle.store.proofs.check.rows_fine.Statement.{statement}
 use Rattle.store.proofs.check.rows_fine.Tie as tie
@@ -30,7 +30,7 @@ loop-holds c =
     let z : A .count - A .count ≡ 0 = omega arith in (
       omega arith,
       refl,
-      rw z (passed-start (place-start (A .rows .now))),
+      rw z (passed-start (reached-start (A .rows .now))),
       unindexed (entries (A .count) (A .rows .now)) (A .index .now) (start .pre),
     )
 
@@ -51,7 +51,7 @@ same-size c =
     rw (c .note .ensures) (length-set (L .index) (L .n) (L .at) ∙ L .inv .1)
 
 walk-rows-requires : tie.Need-walk-rows-requires Inv-loop μ-loop
-walk-rows-requires c κs = c .before .before .before .before .before .before .loop .inv .2 .place
+walk-rows-requires c κs = c .before .before .before .before .before .before .loop .inv .2 .reached
 
 same-length : tie.Need-same-length Inv-loop μ-loop
 same-length c = same-size (c .before .before .before .before .before .before)

@@ -35,7 +35,7 @@ here c =
     sym (c .before .is-row .ensures) ∙ not-false (c .before .is-row .result) (c .if1 .left)
 
 is-row-requires : tie.Need-is-row-requires Inv-loop μ-loop
-is-row-requires c κs = c .before .loop .inv .1 .place .within
+is-row-requires c κs = c .before .loop .inv .1 .reached .within
 
 returns : tie.Need-returns Inv-loop μ-loop
 returns c =
@@ -50,7 +50,7 @@ returns c =
     }
 
 key-follows-requires : tie.Need-key-follows-requires Inv-loop μ-loop
-key-follows-requires c κs = (c .before .before .before .loop .inv .1 .place .row-before (here c), here c)
+key-follows-requires c κs = (c .before .before .before .loop .inv .1 .reached .row-before (here c), here c)
 
 returns-2 : tie.Need-returns-2 Inv-loop μ-loop
 returns-2 c =

@@ -15,7 +15,8 @@ ghost use mathlib.Core.Option.{some};
 ghost use Prim.Native.Nat.{_≤_};
 ghost use lib.ListN.{length};
 ghost use Rattle.wire.specs.Received.{isWhole};
-ghost use Rattle.memory.specs.Image.{slotIn, isUsed, imageOf};
+ghost use Rattle.server.specs.State.{slotAt};
+ghost use Rattle.memory.specs.Image.{isUsed, imageOf};
 ghost use Rattle.memory.specs.Rules.{Sound};
 ghost use Rattle.infod3.specs.Infod3.{infod3};
 ghost use Rattle.server.specs.Decision.{opens, feeds, closes};
@@ -81,7 +82,7 @@ pub fn open(mem: &mut [u8], slot: usize, form: usize) -> Reply
 // Whether the slot has no client: it is free, or its number is N or more.
 fn is_vacant(mem: &[u8], slot: usize) -> bool
     requires { ⌜ Sound (now mem) ⌝ }
-    ensures { λ b. ⌜ b ≡ not (isUsed (slotIn slot (imageOf (now (mem .entry))))) ⌝ }
+    ensures { λ b. ⌜ b ≡ not (isUsed (slotAt slot (imageOf (now (mem .entry))))) ⌝ }
 {
     if memory::slot_count(mem) <= slot {
         return true;

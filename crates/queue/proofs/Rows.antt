@@ -1,11 +1,11 @@
 -- The laws of rows: their lengths, the first of them, and what is behind it.
 use mathlib.Core.Path.{_≡_, refl, sym}
 use mathlib.Core.List.{List, [], _∷_, _++_, append-assoc}
-use Prim.Native.Nat.{_+_, _-_, _<_}
+use Prim.Native.Nat.{_+_, _-_, _<_, min}
 use native.Mathlib.Omega.{arith}
 use lib.Dec.{eqb}
-use lib.ListN.{length, drop, length-append}
-use lib.Seq.{take-append-seam, drop-at}
+use lib.ListN.{length, drop, length-append, length-drop}
+use lib.Seq.{take-append-seam, drop-at, length-take-le}
 use borrow.Author.Tests.{ne-eqb}
 use Rattle.octets.specs.Octets.{Bytes}
 use Rattle.octets.specs.Number.{numberAt, bigEndian}
@@ -26,6 +26,11 @@ unfolding rows
 length-rows m ms = rw (length-append, length-row)
 
 -- ---- the first message
+
+-- the first message has the length that is told
+pub length-firstMessage : (b : Bytes) → length (firstMessage b) ≡ firstLength b
+unfolding firstMessage firstLength
+length-firstMessage b = length-take-le (min (numberAt 4 b 0) (length b - 4)) (drop 4 b) (rw length-drop (omega arith))
 
 pub firstLength-row : (m b : Bytes) → length m < 4294967296 → firstLength (row m ++ b) ≡ length m
 unfolding firstLength row

@@ -22,6 +22,7 @@ pub mod Answers
 pub mod Together
 pub mod Continues
 pub mod NextStates
+pub mod Forms
 pub mod Opened
 pub mod Definitions
 pub mod Tiny

@@ -2,6 +2,7 @@ pub mod Store
 pub mod Patterns
 pub mod Step
 pub mod Turn
+pub mod Queueing
 pub mod State
 pub mod Queue
 pub mod Events
@@ -13,3 +14,4 @@ pub mod History
 pub mod LastInfo
 pub mod Lawful
 pub mod Invariant
+pub mod Forms

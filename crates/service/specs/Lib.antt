@@ -1,4 +1,3 @@
 pub mod Turn
-pub mod Service
 pub mod Represents
 pub mod Contracts

@@ -28,7 +28,8 @@ use Rattle.subscriptions.specs.Region.{patternsOf}
 use Rattle.subscriptions.specs.Contracts as subscriptions
 use Rattle.subscriptions.proofs.Cells.{length-patternsOf}
 use Rattle.subscriptions.proofs.Cells as cells
-use Rattle.slot.specs.Image.{used, withPatterns, withRecording, recorded, commandsOf, withQueue, owed}
+use Rattle.server.specs.State.{used, withPatterns, withRecording, withQueue}
+use Rattle.slot.specs.Image.{recorded, commandsOf, owed}
 use Rattle.slot.specs.Region.{phaseOf, kindByte, subscriptionsPart, recordingPart, queuePart, kindNumbered, clientOf}
 use Rattle.slot.specs.Region.{reserveOf, ClientRules}
 use Rattle.slot.specs.Contracts.{roomOf, HasClient, HasOpen, Becomes, Fits, Recordable, Addable}

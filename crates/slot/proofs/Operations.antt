@@ -1,6 +1,6 @@
 -- What an operation on one region, or on a head byte, makes of a slot with a client.
 use mathlib.Core.Path.{_≡_, refl, ap, _∙_}
-use mathlib.Core.List.{List, [], _∷_}
+use mathlib.Core.List.{List, [], _∷_, append-nil}
 use mathlib.Core.Bool.{true}
 use mathlib.Core.Option.{Option, none}
 use Prim.Native.Nat.{ℕ, _+_, _-_, _/_, _≤_}
@@ -11,11 +11,13 @@ use borrow.Author.Tests.{le-leb}
 use borrow.Rule.Slice.PartMut.{putMid}
 use Rattle.octets.specs.Octets.{Bytes}
 use Rattle.octets.proofs.Parts.{length-part, lent-part}
-use Rattle.protocol.specs.Terms.{Action}
+use Rattle.protocol.specs.Terms.{Action, error}
 use Rattle.protocol.specs.declared.Kind.{Kind}
 use Rattle.protocol.specs.declared.Kind.the-variants.{Packets, Stream, Framed, Text}
 use Rattle.protocol.specs.declared.Refusal.{Refusal}
 use Rattle.server.specs.Patterns.{Patterns}
+use Rattle.message.specs.Forms.{written}
+use Rattle.queue.specs.Rows.{row, rows}
 use Rattle.queue.specs.Meaning as Q
 use Rattle.queue.specs.Meaning.{Queue}
 use Rattle.queue.specs.Region.{InStep, AtRest, queueOf, room}
@@ -25,8 +27,10 @@ use Rattle.recording.specs.Contracts as recording
 use Rattle.recording.proofs.Regions as R
 use Rattle.subscriptions.specs.Region.{subscriptionsFine, patternsOf}
 use Rattle.subscriptions.specs.Contracts as subscriptions
-use Rattle.slot.specs.Image.{free, used, opened, withKind, withPatterns, withRecording}
-use Rattle.slot.specs.Image.{withQueue, refused}
+use Rattle.server.specs.State.{free, used, newClient, withKind, withPatterns, withRecording, withQueue}
+use Rattle.server.specs.Queue.{shutBy}
+use Rattle.slot.specs.Image.{inBytes}
+use Rattle.slot.specs.Image.{refused}
 use Rattle.slot.specs.Region.{phaseOf, kindByte, subscriptionsPart, recordingPart, queuePart, kindNumber, kindNumbered, clientOf}
 use Rattle.slot.specs.Region.{reserveOf}
 use Rattle.slot.specs.Contracts.{roomOf, HasClient, HasOpen, Sized, Becomes, Stripping}
@@ -225,8 +229,8 @@ holds-stripped h w =
 
 pub becomes-opened : {R : ℕ} {s s₁ q : Bytes} {k : Kind} (b : ℕ) → Sized R s → Stripping R (set (set s 0 1) 1 b) s₁
     → Clearing (queuePart R s₁) q → b ≤ 3 → kindNumbered b ≡ k
-    → Becomes R s (sets s₁ (4116 + R) q) (used (opened k))
-unfolding opened clientOf
+    → Becomes R s (sets s₁ (4116 + R) q) (used (newClient k))
+unfolding newClient clientOf
 becomes-opened {R} {s} {s₁} {q} {k} b z w bq l e =
     let n : 4132 + R ≤ length s = omega (arith, z .queue-room) in
     let h = holds-stripped (holds-kind n (holds-phase n (holds R s) 1) b) w in
@@ -236,10 +240,15 @@ becomes-opened {R} {s} {s₁} {q} {k} b z w bq l e =
     (open-fine n l (w .subscriptions) (w .recording) (g .fine 64 m .in-step))
     (rw (e, w .bare .no-patterns, w .bare .no-recording, g .meaning))
 
+-- one message queued is one row more
+pub shut-queued : (k : Kind) (x : Refusal) (q : Queue) → Q.shut k x q ≡ inBytes .appended q (written k (error x) ∷ [])
+unfolding rows
+shut-queued k x q = rw (append-nil (row (written k (error x))))
+
 pub becomes-refused : {R : ℕ} {s s₁ q : Bytes} (x : Refusal) → HasOpen R s → Stripping R (set s 0 2) s₁
     → Outcome (AtRest 0 q) (queuePart R s₁) q (Q.shut (kindNumbered (kindByte s)) x (queueOf (queuePart R s₁)))
     → Becomes R s (sets s₁ (4116 + R) q) (used (refused x (clientOf R s)))
-unfolding clientOf refused
+unfolding clientOf shutBy
 becomes-refused {R} {s} {s₁} {q} x h w bq =
     let n : 4132 + R ≤ length s = h .rules .sized in
     let h₁ = holds-stripped (holds-phase n (holds R s) 2) w in
@@ -257,4 +266,9 @@ becomes-refused {R} {s} {s₁} {q} x h w bq =
       no-patterns = λ _. w .bare .no-patterns;
       no-recording = λ _. w .bare .no-recording;
     })
-    (rw (w .bare .no-patterns, w .bare .no-recording, g .meaning))
+    (rw (
+      w .bare .no-patterns,
+      w .bare .no-recording,
+      g .meaning,
+      shut-queued (kindNumbered (kindByte s)) x (queueOf (queuePart R s)),
+    ))

@@ -24,7 +24,9 @@ use Rattle.queue.proofs.Regions.{at-rest-less, pendingOf-kept, kept-flag}
 use Rattle.recording.proofs.Tests.{either}
 use Rattle.subscriptions.specs.Region.{patternsOf, matching}
 use Rattle.subscriptions.proofs.Lists.{subscribed-matches}
-use Rattle.slot.specs.Image.{ClientImage, SlotImage, free, used, withQueue, refused, owed, notified, settledBy, settled, onClient}
+use Rattle.server.specs.State.{free, used, withQueue}
+use Rattle.server.specs.Events.{onClient}
+use Rattle.slot.specs.Image.{ClientImage, SlotImage, refused, owed, notified, settledBy, settled}
 use Rattle.slot.specs.Region.{phaseOf, subscriptionsPart, queuePart, clientOf, slotOf}
 use Rattle.slot.specs.Region.{reserveOf, SlotRules}
 use Rattle.slot.specs.Contracts.{HasClient, HasResting, HasOpen, Becomes}

@@ -18,7 +18,8 @@ use Rattle.recording.specs.Region.{recordingFine, recordingOf}
 use Rattle.recording.specs.Contracts as recording
 use Rattle.subscriptions.specs.Region.{subscriptionsFine, patternsOf}
 use Rattle.subscriptions.specs.Contracts as subscriptions
-use Rattle.slot.specs.Image.{ClientImage, free, used}
+use Rattle.server.specs.State.{free, used}
+use Rattle.slot.specs.Image.{ClientImage}
 use Rattle.slot.specs.Region.{phaseOf, kindByte, subscriptionsPart, recordingPart, queuePart, kindNumbered, clientOf, slotOf}
 use Rattle.slot.specs.Region.{reserveOf, ClientRules}
 use Rattle.slot.specs.Contracts.{HasClient, Becomes}

@@ -10,13 +10,14 @@ use Rattle.octets.specs.Octets.{Bytes}
 use Rattle.octets.specs.Options.{isSome}
 use Rattle.protocol.specs.Terms.{Action, payload}
 use Rattle.server.specs.Patterns.{addPattern, removePattern}
-use Rattle.server.specs.State.{recordingFits}
+use Rattle.server.specs.State.{recordingFits, free, used, withPatterns}
 use Rattle.queue.specs.Meaning.{kept}
 use Rattle.queue.specs.Rows.{firstLength, firstMessage}
 use Rattle.recording.specs.Command.{actionOf, commandFine}
 use Rattle.recording.specs.Region.{recordingFine}
 use Rattle.subscriptions.specs.Region.{subscriptionsFine}
-use Rattle.slot.specs.Image.{ClientImage, SlotImage, free, used, taken, withPatterns, commandsOf}
+use Rattle.server.specs.Queue.{afterTake}
+use Rattle.slot.specs.Image.{ClientImage, SlotImage, commandsOf}
 use Rattle.slot.specs.Region.{phaseOf, kindByte, subscriptionsPart, recordingPart, queuePart, clientOf, slotOf}
 use Rattle.slot.specs.Region.{Bare, ClientRules, SlotRules}
 
@@ -103,7 +104,7 @@ pub record Stripping (R : ℕ) (s s′ : Bytes) : Type 0 where
 pub record Taking (R : ℕ) (s out : Bytes) (n : ℕ) (s′ out′ : Bytes) : Type 0 where
   pub count : n ≡ firstLength (clientOf R s .queue .queued)
   pub copied : out′ ≡ sets out 0 (firstMessage (clientOf R s .queue .queued))
-  pub left : Becomes R s s′ (used (taken (clientOf R s)))
+  pub left : Becomes R s s′ (used (afterTake (clientOf R s)))
 
 -- whether a command with a payload of n bytes fits behind those recorded
 pub record Fits (R : ℕ) (c : ClientImage) (n : ℕ) (b : Bool) : Type 0 where

@@ -9,26 +9,29 @@ use Rattle.protocol.specs.declared.Refusal.the-variants.{Room, State}
 use Rattle.message.specs.Forms.{written, encoded, form}
 use Rattle.queue.specs.Rows.{row}
 use Rattle.queue.specs.Meaning.{fits, owed as owedTo, keptRows}
-use Rattle.slot.specs.Image.{free, opened, owed, refused, settledBy, settled, notified, onClient, withQueue, withPatterns}
+use Rattle.server.specs.State.{free, newClient, withQueue, withPatterns}
+use Rattle.server.specs.Events.{onClient}
+use Rattle.server.specs.Queue.{shutBy}
+use Rattle.slot.specs.Image.{owed, refused, settledBy, settled, notified}
 
 -- a queue room of 1,024 bytes holds a VERSION
-settled-version : settled (owed 1024 version (opened Packets)) .queue .queued ≡ row (written Packets version)
-unfolding settled settledBy owed opened withQueue owedTo fits keptRows row bigEndian written encoded form messagePayload
+settled-version : settled (owed 1024 version (newClient Packets)) .queue .queued ≡ row (written Packets version)
+unfolding settled settledBy owed newClient withQueue owedTo fits keptRows row bigEndian written encoded form messagePayload
 settled-version = refl
 
 -- one of 64 bytes does not: all 64 are kept back for the ERROR
-settled-full : settled (owed 64 version (opened Packets)) ≡ refused Room (opened Packets)
-unfolding settled settledBy owed opened withQueue owedTo fits refused row bigEndian written encoded form messagePayload
+settled-full : settled (owed 64 version (newClient Packets)) ≡ refused Room (newClient Packets)
+unfolding settled settledBy owed newClient withQueue owedTo fits shutBy row bigEndian written encoded form messagePayload
 settled-full = refl
 
 -- once shut, a client is not notified, and the end of a step leaves it as it is
-notified-refused : notified 1024 (97 ∷ []) 1 (refused State (withPatterns ((97 ∷ []) ∷ []) (opened Packets)))
-    ≡ refused State (opened Packets)
-unfolding notified refused withPatterns opened
+notified-refused : notified 1024 (97 ∷ []) 1 (refused State (withPatterns ((97 ∷ []) ∷ []) (newClient Packets)))
+    ≡ refused State (newClient Packets)
+unfolding notified shutBy withPatterns newClient
 notified-refused = refl
 
-settled-refused : settled (refused State (opened Packets)) ≡ refused State (opened Packets)
-unfolding settled refused opened
+settled-refused : settled (refused State (newClient Packets)) ≡ refused State (newClient Packets)
+unfolding settled shutBy newClient
 settled-refused = refl
 
 -- a free slot stays free

@@ -3,52 +3,43 @@
 use Prim.Native.Nat.{ℕ}
 use mathlib.Core.Path.{_≡_}
 use mathlib.Core.List.{List, [], _∷_, _++_}
-use mathlib.Core.Bool.{Bool, true, false, cond}
+use mathlib.Core.Bool.{cond}
 use mathlib.Core.Option.{Option, some, none}
-use lib.ListN.{take}
+use lib.ListN.{length, take}
 use Rattle.octets.specs.Octets.{Bytes}
 use Rattle.protocol.specs.Terms.{Action, Message}
-use Rattle.protocol.specs.declared.Kind.{Kind}
 use Rattle.protocol.specs.declared.Refusal.{Refusal}
 use Rattle.protocol.specs.declared.Refusal.the-variants.{Room}
 use Rattle.message.specs.Forms.{written}
 use Rattle.message.specs.Writing.{said}
 use Rattle.message.specs.declared.Message.the-variants.{Info}
 use Rattle.queue.specs.Meaning as Q
-use Rattle.queue.specs.Meaning.{Pending, kept, overflown, Queue, owing}
-use Rattle.server.specs.Patterns.{Patterns}
+use Rattle.queue.specs.Meaning.{Pending, kept, overflown, Queue, queueWith, owing}
+use Rattle.queue.specs.Rows.{rows, isEmpty, firstMessage}
 use Rattle.server.specs.Step.{subscribed}
+use Rattle.server.specs.Queueing.{Queueing}
+use Rattle.server.specs.State.{ClientOf, SlotOf, used, withRecording, withQueue}
+use Rattle.server.specs.Queue.{shutBy}
 use Rattle.subscriptions.specs.Region.{matching}
 
-pub record ClientImage : Type 0 where
-  pub kind : Kind
-  pub shut : Bool
-  pub patterns : Patterns
-  pub recording : Option (List Action)
-  pub queue : Queue
+-- a queue as the memory holds it: the untaken messages as bytes, and what is pending. Messages behind it are queued at
+-- once, and what is pending is dropped.
+abbrev pub inBytes : Queueing
+inBytes =
+    record {
+      Queue = Queue;
+      empty = Q.empty;
+      charge = λ q. length (q .queued);
+      first = λ q. cond (isEmpty (q .queued)) none (some (firstMessage (q .queued)));
+      rest = Q.taken;
+      appended = λ q ms. queueWith (q .queued ++ rows ms) (kept []);
+    }
 
--- a slot is free, or has a client
-pub data SlotImage : Type 0 where
-  free : SlotImage
-  used : ClientImage → SlotImage
+abbrev pub ClientImage : Type 0
+ClientImage = ClientOf inBytes
 
--- a client just opened: nothing of an earlier client of the slot
-unfoldable pub opened : Kind → ClientImage
-opened k = record { kind = k; shut = false; patterns = []; recording = none; queue = Q.empty }
-
--- the client with this kind
-unfoldable pub withKind : Kind → ClientImage → ClientImage
-withKind k c =
-    record { kind = k; shut = c .shut; patterns = c .patterns; recording = c .recording; queue = c .queue }
-
--- the client with these patterns
-unfoldable pub withPatterns : Patterns → ClientImage → ClientImage
-withPatterns ps c =
-    record { kind = c .kind; shut = c .shut; patterns = ps; recording = c .recording; queue = c .queue }
-
--- the client with this recording, or with none
-unfoldable pub withRecording : Option (List Action) → ClientImage → ClientImage
-withRecording r c = record { kind = c .kind; shut = c .shut; patterns = c .patterns; recording = r; queue = c .queue }
+abbrev pub SlotImage : Type 0
+SlotImage = SlotOf inBytes
 
 -- the commands of a recording; none where there is no recording
 abbrev pub commandsOf : Option (List Action) → List Action
@@ -59,18 +50,9 @@ commandsOf (some xs) = xs
 unfoldable pub recorded : Action → ClientImage → ClientImage
 recorded a c = withRecording (some (commandsOf (c .recording) ++ (a ∷ []))) c
 
--- the client with this queue
-unfoldable pub withQueue : Queue → ClientImage → ClientImage
-withQueue q c = record { kind = c .kind; shut = c .shut; patterns = c .patterns; recording = c .recording; queue = q }
-
--- the client without its first message
-unfoldable pub taken : ClientImage → ClientImage
-taken c = withQueue (Q.taken (c .queue)) c
-
--- shutting: what is pending is dropped, one ERROR is queued, the patterns and the recording go
-unfoldable pub refused : Refusal → ClientImage → ClientImage
-refused r c =
-    record { kind = c .kind; shut = true; patterns = []; recording = none; queue = Q.shut (c .kind) r (c .queue) }
+-- shutting, as the simple server does it
+abbrev pub refused : Refusal → ClientImage → ClientImage
+refused r c = shutBy written r c
 
 -- one message more is owed to the client, whose queue has the room R
 unfoldable pub owed : ℕ → Message → ClientImage → ClientImage
@@ -95,11 +77,6 @@ settledBy overflown c = refused Room c
 -- the end of a step: a shut client stays as it is
 unfoldable pub settled : ClientImage → ClientImage
 settled c = cond (c .shut) c (settledBy (c .queue .pending) c)
-
--- a change of a slot's client; a free slot stays free
-unfoldable pub onClient : (ClientImage → ClientImage) → SlotImage → SlotImage
-onClient f free = free
-onClient f (used c) = used (f c)
 
 -- between steps: a client, where there is one, is owed nothing
 abbrev pub Resting : SlotImage → Type 0

@@ -17,7 +17,8 @@ use Rattle.protocol.specs.declared.Kind.the-variants.{Packets, Stream, Framed, 
 use Rattle.queue.specs.Region.{InStep, queueFine, queueOf}
 use Rattle.recording.specs.Region.{recordingFine, recordingOf}
 use Rattle.subscriptions.specs.Region.{subscriptionsFine, patternsOf}
-use Rattle.slot.specs.Image.{ClientImage, SlotImage, free, used}
+use Rattle.server.specs.State.{free, used}
+use Rattle.slot.specs.Image.{ClientImage, SlotImage}
 
 -- ---- the regions
 

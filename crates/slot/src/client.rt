@@ -2,7 +2,9 @@
 use message::Message;
 ghost use Prim.Native.Nat.{_≤_};
 ghost use lib.ListN.{length};
-ghost use Rattle.slot.specs.Image.{used, notified, onClient};
+ghost use Rattle.server.specs.State.{used};
+ghost use Rattle.server.specs.Events.{onClient};
+ghost use Rattle.slot.specs.Image.{notified};
 ghost use Rattle.slot.specs.Region.{SlotRules, clientOf, slotOf};
 ghost use Rattle.slot.specs.Contracts.{roomOf, HasOpen, IsOpen, IsAddable, Becomes};
 ghost use Rattle.slot.specs.Contracts.{PatternFits, Adding, Removing};

@@ -29,7 +29,7 @@ ghost use mathlib.Core.Path.{_≡_};
 ghost use Prim.Native.Nat.{_+_, _≤_};
 ghost use lib.Dec.{eqb};
 ghost use lib.ListN.{length};
-ghost use Rattle.slot.specs.Image.{used, opened, withKind};
+ghost use Rattle.server.specs.State.{used, newClient, withKind};
 ghost use Rattle.slot.specs.Region.{phaseOf, kindByte, kindNumber, kindNumbered};
 ghost use Rattle.slot.specs.Contracts.{Sized, Regions, Becomes, Stripping, Closing, Changing};
 
@@ -105,7 +105,7 @@ fn strip(s: &mut [u8], r: usize)
 // Has a new client of this kind in the slot: open, with nothing of an earlier one.
 pub fn open(s: &mut [u8], r: usize, kind: Kind)
     requires { ⌜ Sized r (now s) ⌝ }
-    ensures { λ _. ⌜ Becomes r (now (s .entry)) (now (s .exit)) (used (opened kind)) ⌝ }
+    ensures { λ _. ⌜ Becomes r (now (s .entry)) (now (s .exit)) (used (newClient kind)) ⌝ }
 {
     s[0] = 1;
     s[1] = kind_number(kind);

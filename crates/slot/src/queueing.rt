@@ -7,7 +7,9 @@ ghost use Prim.Native.Nat.{_+_, _≤_};
 ghost use lib.ListN.{length};
 ghost use Rattle.message.specs.Writing.{said};
 ghost use Rattle.queue.specs.Rows.{isEmpty, firstLength};
-ghost use Rattle.slot.specs.Image.{used, owed, refused, settled, onClient};
+ghost use Rattle.server.specs.State.{used};
+ghost use Rattle.server.specs.Events.{onClient};
+ghost use Rattle.slot.specs.Image.{owed, refused, settled};
 ghost use Rattle.slot.specs.Region.{SlotRules, clientOf, slotOf};
 ghost use Rattle.slot.specs.Contracts.{roomOf, HasResting, HasOpen, Becomes, Taking};
 

@@ -5,7 +5,8 @@ ghost use mathlib.Core.Option.{some, none};
 ghost use Prim.Native.Nat.{_+_};
 ghost use Rattle.octets.specs.Options.{isSome};
 ghost use Rattle.recording.specs.Command.{actionOf};
-ghost use Rattle.slot.specs.Image.{used, withRecording, recorded};
+ghost use Rattle.server.specs.State.{used, withRecording};
+ghost use Rattle.slot.specs.Image.{recorded};
 ghost use Rattle.slot.specs.Region.{clientOf};
 ghost use Rattle.slot.specs.Contracts.{HasClient, HasOpen, Becomes, Fits, Recordable};
 

@@ -6,8 +6,10 @@ use Prim.Native.Nat.{ℕ, _<_}
 use lib.ListN.{length, getD, set}
 use lib.Seq.{getD-set-same, set-getD, set-set}
 use Rattle.octets.specs.Octets.{Bytes}
-use Rattle.slot.specs.Image.{ClientImage, SlotImage, free, used, onClient}
-use Rattle.memory.specs.Image.{Image, imageOf, slotIn, isUsed, clientIn, isOpen, withSlots, onSlot}
+use Rattle.server.specs.State.{free, used, slotAt}
+use Rattle.server.specs.Events.{onClient}
+use Rattle.slot.specs.Image.{ClientImage, SlotImage}
+use Rattle.memory.specs.Image.{Image, imageOf, isUsed, clientIn, isOpen, withSlots, onSlot}
 use Rattle.memory.specs.Rules.{Sound}
 use Rattle.memory.specs.Contracts.{InSlot, InOpen, Changes}
 use Rattle.memory.proofs.Lent.{length-slots}
@@ -19,22 +21,22 @@ use Rattle.service.proofs.Actions.{onClient-equal, onSlot-equal}
 
 module _ (i : ℕ) (im : Image) where
   onSlot-same : onSlot i (onClient (λ c. c)) im ≡ im
-  unfolding onSlot withSlots slotIn
+  unfolding onSlot withSlots slotAt
   onSlot-same =
       ap (λ (l : List SlotImage). withSlots l im)
       (ap (set (im .slots) i) (onClient-same (getD (im .slots) i free)) ∙ set-getD (im .slots) i free)
 
   module _ (f : SlotImage → SlotImage) (l : i < length (im .slots)) where
-    slotIn-onSlot : slotIn i (onSlot i f im) ≡ f (slotIn i im)
-    unfolding onSlot withSlots slotIn
-    slotIn-onSlot = getD-set-same (im .slots) i (f (getD (im .slots) i free)) free l
+    slotAt-onSlot : slotAt i (onSlot i f im) ≡ f (slotAt i im)
+    unfolding onSlot withSlots slotAt
+    slotAt-onSlot = getD-set-same (im .slots) i (f (getD (im .slots) i free)) free l
 
     onSlot-onSlot : (g : SlotImage → SlotImage) → onSlot i g (onSlot i f im) ≡ onSlot i (λ x. g (f x)) im
     unfolding onSlot withSlots
     onSlot-onSlot g =
-        ap (λ (x : SlotImage). withSlots (set (set (im .slots) i (f (slotIn i im))) i (g x)) im) slotIn-onSlot
+        ap (λ (x : SlotImage). withSlots (set (set (im .slots) i (f (slotAt i im))) i (g x)) im) slotAt-onSlot
         ∙ ap (λ (xs : List SlotImage). withSlots xs im)
-        (set-set (im .slots) i (f (slotIn i im)) (g (f (slotIn i im))))
+        (set-set (im .slots) i (f (slotAt i im)) (g (f (slotAt i im))))
 
 isOpen-onClient : (f : ClientImage → ClientImage) → ((c : ClientImage) → f c .shut ≡ c .shut) → (x : SlotImage)
     → isOpen (onClient f x) ≡ isOpen x
@@ -51,7 +53,7 @@ changes-same i {m} h = becomes-as (sym (onSlot-same i (imageOf m))) (becomes-sam
 pub changes-equal : (i : ℕ) (f g : ClientImage → ClientImage) → ((c : ClientImage) → f c ≡ g c) → {a b : Bytes}
     → Changes i f a b → Changes i g a b
 changes-equal i f g e {a} h =
-    becomes-as (onSlot-equal i (onClient f) (onClient g) (imageOf a) (onClient-equal e (slotIn i (imageOf a)))) h
+    becomes-as (onSlot-equal i (onClient f) (onClient g) (imageOf a) (onClient-equal e (slotAt i (imageOf a)))) h
 
 module _ (i : ℕ) (f : ClientImage → ClientImage) {a b : Bytes} (h : Changes i f a b) where
   pub changes-sizes : imageOf b .sizes ≡ imageOf a .sizes
@@ -74,7 +76,7 @@ module _ (i : ℕ) (f : ClientImage → ClientImage) {a b : Bytes} (h : Changes 
       ap (onSlot i (onClient g)) (h .means)
       ∙ onSlot-onSlot i (imageOf a) (onClient f) (inside-slots s) (onClient g)
       ∙ onSlot-equal i (λ x. onClient g (onClient f x)) (onClient (λ x. g (f x))) (imageOf a)
-      (onClient-onClient g f (slotIn i (imageOf a))) in
+      (onClient-onClient g f (slotAt i (imageOf a))) in
       becomes-as e (becomes-then h refl k)
 
   -- an open client that is not shut stays open
@@ -84,8 +86,8 @@ module _ (i : ℕ) (f : ClientImage → ClientImage) {a b : Bytes} (h : Changes 
       record {
         in-slot = record { sound = h .sound; inside = rw (becomes-sizes h refl) (o .in-slot .inside) };
         has-open =
-            ap (λ (im : Image). isOpen (slotIn i im)) (h .means)
-            ∙ ap isOpen (slotIn-onSlot i (imageOf a) (onClient f) (inside-slots (o .in-slot)))
-            ∙ isOpen-onClient f e (slotIn i (imageOf a))
+            ap (λ (im : Image). isOpen (slotAt i im)) (h .means)
+            ∙ ap isOpen (slotAt-onSlot i (imageOf a) (onClient f) (inside-slots (o .in-slot)))
+            ∙ isOpen-onClient f e (slotAt i (imageOf a))
             ∙ o .has-open;
       }

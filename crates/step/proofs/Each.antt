@@ -6,7 +6,8 @@ use native.Mathlib.Numerals.{add-one}
 use native.Mathlib.Omega.{arith}
 use lib.ListN.{length}
 use Rattle.octets.specs.Octets.{Bytes}
-use Rattle.slot.specs.Image.{ClientImage, onClient}
+use Rattle.server.specs.Events.{onClient}
+use Rattle.slot.specs.Image.{ClientImage}
 use Rattle.memory.specs.Layout.{sizesOf, stride, slotsStart, slotStart}
 use Rattle.memory.specs.Image.{Image, imageOf, withSlots, onSlot, onSlots}
 use Rattle.memory.specs.Rules.{Sound, Becomes}

@@ -24,7 +24,8 @@ use Rattle.store.proofs.Rows.{row-size}
 use Rattle.store.proofs.Region.{length-storeOf, remains-row, remains-behind}
 use Rattle.store.proofs.Change.{found-row, found-none}
 use Rattle.store.proofs.Laws.{row-first}
-use Rattle.slot.specs.Image.{ClientImage, withQueue, owed}
+use Rattle.server.specs.State.{withQueue}
+use Rattle.slot.specs.Image.{ClientImage, owed}
 use Rattle.memory.specs.Layout.{sizesOf, storePart}
 use Rattle.memory.specs.Image.{imageOf}
 use Rattle.memory.specs.Rules.{Sound}

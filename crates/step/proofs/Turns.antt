@@ -14,8 +14,9 @@ use Rattle.server.specs.Step.{storeAfter, patternsAfter, refuses, replies, noti
 use Rattle.recording.specs.Command.{actionOf, writeFrom, commandFine}
 use Rattle.recording.proofs.Packed.{commandFine-short}
 use Rattle.infod3.specs.Infod3.{infod3}
-use Rattle.slot.specs.Image.{ClientImage, withPatterns, owed, owedAll}
-use Rattle.memory.specs.Image.{imageOf, slotIn, clientIn}
+use Rattle.server.specs.State.{withPatterns, slotAt}
+use Rattle.slot.specs.Image.{ClientImage, owed, owedAll}
+use Rattle.memory.specs.Image.{imageOf, clientIn}
 use Rattle.memory.specs.Rules.{Becomes}
 use Rattle.memory.specs.Contracts.{InOpen, Changes, Addable, Owing, patternAdded, patternRemoved}
 use Rattle.memory.proofs.Lent.{used-is, open-used, open-not-shut}
@@ -65,7 +66,7 @@ module _ (m : Bytes) (i : ℕ) (a : Action) (kept : storeAfter a (imageOf m .sto
       → ((c : ClientImage) → f c ≡ ownTurn infod3 (imageOf m .sizes .queueRoom) a (imageOf m .store) c) → {m′ : Bytes}
       → Changes i f m m′ → Becomes m m′ (afterTurn infod3 i a (imageOf m))
   own-becomes o f e k =
-      let x = slotIn i (imageOf m) in
+      let x = slotAt i (imageOf m) in
       let h = o .has-open in
       let u = used-is x (open-used x h) in
       becomes-as (sym (afterTurn-own infod3 i a (imageOf m) kept quiet (clientIn x) u (open-not-shut x h)))

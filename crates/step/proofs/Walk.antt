@@ -17,7 +17,8 @@ use Rattle.infod3.specs.Infod3.{infod3}
 use Rattle.store.specs.Row.{rowSize, rowFine}
 use Rattle.store.proofs.Region.{First}
 use Rattle.store.proofs.Split.{charge-append}
-use Rattle.slot.specs.Image.{ClientImage, withQueue, owed, owedAll}
+use Rattle.server.specs.State.{withQueue}
+use Rattle.slot.specs.Image.{ClientImage, owed, owedAll}
 use Rattle.memory.specs.Image.{imageOf}
 use Rattle.memory.specs.Rules.{Sound}
 use Rattle.memory.specs.Contracts.{InOpen, Changes, Owing}

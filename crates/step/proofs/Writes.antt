@@ -30,7 +30,8 @@ use Rattle.store.specs.Operation.{lower, charge, body, putPayload, Writable}
 use Rattle.store.proofs.Split.{own, storeAfterWrite-split}
 use Rattle.store.proofs.Change.{parts, found-none}
 use Rattle.store.proofs.Laws.{changes-some, changes-none}
-use Rattle.slot.specs.Image.{notified, onClient}
+use Rattle.server.specs.Events.{onClient}
+use Rattle.slot.specs.Image.{notified}
 use Rattle.memory.specs.Layout.{sizesOf, storePart}
 use Rattle.memory.specs.Image.{Image, imageOf, withStore, withSlots, onSlots}
 use Rattle.memory.specs.Rules.{Becomes}

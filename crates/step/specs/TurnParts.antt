@@ -14,7 +14,8 @@ use Rattle.store.specs.Region.{storeFine}
 use Rattle.store.specs.Operation.{charge, Found}
 use Rattle.recording.specs.Command.{writeFrom, actionOf, commandFine}
 use Rattle.recording.specs.Turn.{valueIn}
-use Rattle.slot.specs.Image.{owed, notified, onClient}
+use Rattle.server.specs.Events.{onClient}
+use Rattle.slot.specs.Image.{owed, notified}
 use Rattle.memory.specs.Layout.{sizesOf, storePart}
 use Rattle.memory.specs.Image.{clientAt, imageOf, onSlots}
 use Rattle.memory.specs.Rules.{Sound, Becomes}

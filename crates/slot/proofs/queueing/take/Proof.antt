@@ -1,4 +1,5 @@
-use Rattle.slot.specs.Image.{taken}
+use Rattle.server.specs.Queue.{afterTake}
+use Rattle.server.specs.State.{withQueue}
 use Rattle.slot.specs.Region.{clientOf, phaseOf, reserveOf}
 use Rattle.slot.proofs.Operations.{lent-queue}
 use Rattle.slot.proofs.Lent.{lent-queued}
@@ -41,7 +42,7 @@ same-length-2 c = search needs
 
 -- src/queueing.rt:31:1
 returns : tie.Need-returns
-unfolding clientOf taken
+unfolding clientOf afterTake withQueue
 returns c =
     let b = rw (lent-queue (c .before .before .before .before .before .before .before .before .before .args .r) (c .before .before .before .before .before .before .before .before .before .args .s .now)) at (c .before .before .before .before .take .ensures) in
     let h = c .before .before .before .before .before .before .before .before .before .pre .0 in

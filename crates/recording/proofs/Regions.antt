@@ -2,7 +2,6 @@
 use mathlib.Core.Path.{_≡_, sym, _∙_}
 use mathlib.Core.List.{List, [], _∷_, _++_}
 use mathlib.Core.Bool.{true, false, _&&_, not, true≢false}
-use mathlib.Core.Option.{some}
 use Prim.Native.Nat.{ℕ, _+_, _-_, _≤_, _<_}
 use native.Mathlib.Nat.{zero-add, add-zero}
 use native.Mathlib.Omega.{arith}
@@ -10,12 +9,11 @@ use lib.Dec.{eqb, leb}
 use lib.ListN.{length, length-append}
 use borrow.Author.Tests.{leb-true, leb-false, le-leb, lt-leb}
 use Rattle.octets.specs.Octets.{Bytes}
-use Rattle.octets.specs.Options.{isSome}
 use Rattle.octets.proofs.Parts.{length-part}
 use Rattle.protocol.specs.Terms.{Action, payload}
-use Rattle.server.specs.State.{recordingCharge, recordingFits}
+use Rattle.server.specs.State.{begun, isBegun, recordingCharge, recordingFits}
 use Rattle.recording.specs.Command.{rowsFine}
-use Rattle.recording.specs.Region.{stateOf, usedOf, countOf, roomOf, rowsOf, recorded, recordingOf, sized}
+use Rattle.recording.specs.Region.{stateOf, usedOf, countOf, roomOf, rowsOf, recorded, transactionOf, sized}
 use Rattle.recording.specs.Region.{stateFine, recordingFine}
 use Rattle.recording.specs.Contracts.{Fits}
 use Rattle.recording.proofs.Tests.{either, and-both, and-true-true}
@@ -78,13 +76,13 @@ pub count-recorded : (r : Bytes) → countOf r ≡ length (recorded r)
 unfolding recorded
 count-recorded r = sym (length-commands (countOf r) (rowsOf r))
 
-pub isSome-on : (r : Bytes) → isSome (recordingOf r) ≡ not (eqb (stateOf r) 0)
-unfolding recordingOf
-isSome-on r = either (eqb (stateOf r) 0) (λ t. rw t) (λ t. rw t)
+pub isBegun-on : (r : Bytes) → isBegun (transactionOf r) ≡ not (eqb (stateOf r) 0)
+unfolding transactionOf
+isBegun-on r = either (eqb (stateOf r) 0) (λ t. rw t) (λ t. rw t)
 
-pub on-some : (r : Bytes) → isSome (recordingOf r) ≡ true → recordingOf r ≡ some (recorded r)
-unfolding recordingOf
-on-some r h = either (eqb (stateOf r) 0) (λ t. absurd (true≢false (sym (rw t at h)))) (λ t. rw t)
+pub on-begun : (r : Bytes) → isBegun (transactionOf r) ≡ true → transactionOf r ≡ begun (recorded r)
+unfolding transactionOf
+on-begun r h = either (eqb (stateOf r) 0) (λ t. absurd (true≢false (sym (rw t at h)))) (λ t. rw t)
 
 recordingCharge-append : (xs ys : List Action) → recordingCharge (xs ++ ys) ≡ recordingCharge xs + recordingCharge ys
 unfolding recordingCharge

@@ -2,7 +2,6 @@
 use mathlib.Core.Path.{_≡_, refl, sym, ap, _∙_}
 use mathlib.Core.List.{[], _∷_, _++_}
 use mathlib.Core.Bool.{true, cond, _&&_}
-use mathlib.Core.Option.{some, none}
 use Prim.Native.Nat.{ℕ, suc, _+_, _-_, _^_, _≤_, _<_}
 use native.Mathlib.Numerals.{add-one}
 use native.Mathlib.Omega.{arith}
@@ -17,8 +16,9 @@ use Rattle.octets.proofs.Laws.{sets-append}
 use Rattle.octets.proofs.Parts.{drop-sets, part-sets-end}
 use Rattle.octets.proofs.Numbers.{numberAt-sets-same, numberAt-sets-apart, length-bigEndian}
 use Rattle.protocol.specs.Terms.{payload}
+use Rattle.server.specs.State.{off, begun}
 use Rattle.recording.specs.Command.{actionOf, rowOf, commands, rowsFine}
-use Rattle.recording.specs.Region.{stateOf, usedOf, countOf, roomOf, rowsOf, recorded, recordingOf, sized}
+use Rattle.recording.specs.Region.{stateOf, usedOf, countOf, roomOf, rowsOf, recorded, transactionOf, sized}
 use Rattle.recording.specs.Region.{stateFine, recordingFine}
 use Rattle.recording.specs.Contracts.{Becomes, headed, Addable}
 use Rattle.recording.proofs.Tests.{and-both}
@@ -90,10 +90,10 @@ headed-fine {r} {s} {u} {n} w =
       rows = rw (en, rowsOf-headed r s u n (w .head) hu) (w .rows);
     })
 
-recordingOf-headed : {r : Bytes} {s u n : ℕ} → Header r s u n
-    → recordingOf (headed r s u n) ≡ cond (eqb s 0) none (some (commands n (part r 12 u)))
-unfolding recordingOf recorded
-recordingOf-headed {r} {s} {u} {n} w =
+transactionOf-headed : {r : Bytes} {s u n : ℕ} → Header r s u n
+    → transactionOf (headed r s u n) ≡ cond (eqb s 0) off (begun (commands n (part r 12 u)))
+unfolding transactionOf recorded
+transactionOf-headed {r} {s} {u} {n} w =
     let hs : s < 256 ^ 4 = omega (arith, w .known) in
     let hu : u < 256 ^ 4 = omega (arith, w .room, w .short) in
     let hn : n < 256 ^ 4 = omega (arith, w .few) in
@@ -107,11 +107,11 @@ empty-header r s h k f =
     record { head = b .0; short = b .1; room = omega arith; few = omega arith; state = f; known = k; rows = refl }
 
 pub becomes-empty : (r : Bytes) (s : ℕ) → sized r ≡ true → s ≤ 1 → stateFine s 0 ≡ true
-    → Becomes (cond (eqb s 0) none (some [])) r (headed r s 0 0)
+    → Becomes (cond (eqb s 0) off (begun [])) r (headed r s 0 0)
 unfolding commands
 becomes-empty r s h k f =
     let e = empty-header r s h k f in
-    record { fine = headed-fine e; size = length-headed r s 0 0 (e .head); holds = recordingOf-headed e }
+    record { fine = headed-fine e; size = length-headed r s 0 0 (e .head); holds = transactionOf-headed e }
 
 -- ---- a command added
 
@@ -178,12 +178,12 @@ module _ (r : Bytes) (id : ℕ) (p : Bytes) (w : Addable r id p) where
       let m = fine-rules (w .fine) in
       rw (rows-added, commands-append (countOf r) 1 (rowsOf r) (rowOf id p) (m .rows), commands-rowOf id p (w .known))
 
-  pub becomes-added : Becomes (some (recorded r ++ (actionOf id p ∷ []))) r
+  pub becomes-added : Becomes (begun (recorded r ++ (actionOf id p ∷ []))) r
       (headed (added r id p) 1 (usedOf r + 4 + length p) (countOf r + 1))
   becomes-added =
       record {
         fine = headed-fine added-header;
         size = length-headed (added r id p) 1 (usedOf r + 4 + length p) (countOf r + 1) (added-header .head)
             ∙ length-added;
-        holds = recordingOf-headed added-header ∙ ap some added-commands;
+        holds = transactionOf-headed added-header ∙ ap begun added-commands;
       }

@@ -1,30 +1,29 @@
 -- What the functions of this crate ask and ensure.
 use Prim.Native.Nat.{ℕ, _+_, _≤_}
 use mathlib.Core.Path.{_≡_}
-use mathlib.Core.List.{List, [], _∷_, _++_}
+use mathlib.Core.List.{[], _∷_, _++_}
 use mathlib.Core.Bool.{Bool, true}
-use mathlib.Core.Option.{Option, some}
 use lib.ListN.{length, drop}
 use lib.Seq.{sets}
 use Rattle.octets.specs.Octets.{Bytes}
 use Rattle.octets.specs.Number.{bigEndian}
 use Rattle.protocol.specs.Terms.{Action, payload}
-use Rattle.server.specs.State.{recordingCharge, recordingFits}
+use Rattle.server.specs.State.{begun, Transaction, recordingCharge, recordingFits}
 use Rattle.server.specs.Turn.{orElse}
 use Rattle.recording.specs.declared.Row.{Row}
 use Rattle.recording.specs.Command.{actionOf, commandFine, rowSize, commandAt, rowFine}
-use Rattle.recording.specs.Region.{usedOf, rowsOf, roomOf, recorded, recordingOf, recordingFine}
+use Rattle.recording.specs.Region.{usedOf, rowsOf, roomOf, recorded, transactionOf, recordingFine}
 use Rattle.recording.specs.Turn.{bodyFor, lastBody, earlier, bodyOf}
 
 -- an operation on the region r leaves r′: a fine region of the same length that means m
-pub record Becomes (m : Option (List Action)) (r r′ : Bytes) : Type 0 where
+pub record Becomes (m : Transaction) (r r′ : Bytes) : Type 0 where
   pub fine : recordingFine r′ ≡ true
   pub size : length r′ ≡ length r
-  pub holds : recordingOf r′ ≡ m
+  pub holds : transactionOf r′ ≡ m
 
 -- what is recorded, and then the command of this ID and payload
-abbrev pub extended : Bytes → ℕ → Bytes → Option (List Action)
-extended r id p = some (recorded r ++ (actionOf id p ∷ []))
+abbrev pub extended : Bytes → ℕ → Bytes → Transaction
+extended r id p = begun (recorded r ++ (actionOf id p ∷ []))
 
 -- the region with the three numbers in front written
 unfoldable pub headed : Bytes → ℕ → ℕ → ℕ → Bytes
@@ -42,7 +41,7 @@ pub record Fits (r : Bytes) (n : ℕ) (b : Bool) : Type 0 where
 -- a command with this ID and payload can be added to what is being recorded
 pub record Addable (r : Bytes) (id : ℕ) (p : Bytes) : Type 0 where
   pub fine : recordingFine r ≡ true
-  pub on : recordingOf r ≡ some (recorded r)
+  pub on : transactionOf r ≡ begun (recorded r)
   pub known : commandFine id (length p) ≡ true
   pub fits : recordingFits (roomOf r) (recorded r ++ (actionOf id p ∷ [])) ≡ true
 

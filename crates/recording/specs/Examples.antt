@@ -8,9 +8,10 @@ use Rattle.octets.specs.Octets.{Bytes, ascii, firstNul}
 use Rattle.octets.specs.Order.{same}
 use Rattle.octets.specs.Number.{digits, number, numberAt, bigEndian}
 use Rattle.protocol.specs.Terms.{write, ping, payload, valueTail}
+use Rattle.server.specs.State.{off, begun}
 use Rattle.recording.specs.Command.{valueBehind, writeFrom, actionOf, commandFine, rowOf, rowSize, rowPayload}
 use Rattle.recording.specs.Command.{commandAt, rowFine, commands, rowsFine}
-use Rattle.recording.specs.Region.{stateOf, usedOf, countOf, rowsOf, recorded, recordingOf, sized, stateFine}
+use Rattle.recording.specs.Region.{stateOf, usedOf, countOf, rowsOf, recorded, transactionOf, sized, stateFine}
 use Rattle.recording.specs.Region.{recordingFine}
 use Rattle.recording.specs.Turn.{bodyFor, lastBody, valueIn, commandsBefore, earlier, bodyAtTurn}
 
@@ -66,14 +67,14 @@ row-first : rowOf 4 (ascii "k") ≡ 4 ∷ 0 ∷ 0 ∷ 1 ∷ 107 ∷ []
 unfolding rowOf bigEndian ascii
 row-first = refl
 
-recorded-three : recordingOf (region 1 17 3)
-    ≡ some (write (ascii "k") none ∷ write (ascii "k") (some (ascii "v")) ∷ ping (ascii "x") ∷ [])
-unfolding region rows-three recordingOf recorded stateOf usedOf countOf rowsOf numberAt number digits
+recorded-three : transactionOf (region 1 17 3)
+    ≡ begun (write (ascii "k") none ∷ write (ascii "k") (some (ascii "v")) ∷ ping (ascii "x") ∷ [])
+unfolding region rows-three transactionOf recorded stateOf usedOf countOf rowsOf numberAt number digits
     commands commandAt rowPayload rowSize actionOf writeFrom valueBehind firstNul ascii
 recorded-three = refl
 
-not-recording : recordingOf (region 0 0 0) ≡ none
-unfolding region rows-three recordingOf stateOf numberAt number digits
+not-recording : transactionOf (region 0 0 0) ≡ off
+unfolding region rows-three transactionOf stateOf numberAt number digits
 not-recording = refl
 
 -- whole, none, and empty recordings are fine; a row cut short, a row too many, an unknown state, commands in state 0,

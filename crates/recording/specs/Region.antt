@@ -1,17 +1,17 @@
 -- The recording region of a slot: state 4 (0 none, 1 recording), used bytes 4, number of commands 4, then the record
 -- room of R bytes, whose first used bytes are the commands' rows. Its rules (`recordingFine`) and its meaning
--- (`recordingOf`): what a client has recorded since its BEGIN (document 01, "The simple server", BEGIN). Numbers have
+-- (`transactionOf`): what a client has recorded since its BEGIN (document 01, "The simple server", BEGIN). Numbers have
 -- the highest byte first. The bytes behind the rows have no rule.
 use Prim.Native.Nat.{ℕ, _-_}
 use mathlib.Core.List.{List}
 use mathlib.Core.Bool.{Bool, cond, _&&_, _||_}
-use mathlib.Core.Option.{Option, some, none}
 use lib.Dec.{eqb, leb}
 use lib.ListN.{length}
 use Rattle.octets.specs.Octets.{Bytes}
 use Rattle.octets.specs.Part.{part}
 use Rattle.octets.specs.Number.{numberAt}
 use Rattle.protocol.specs.Terms.{Action}
+use Rattle.server.specs.State.{off, begun, Transaction}
 use Rattle.recording.specs.Command.{commands, rowsFine}
 
 unfoldable pub stateOf : Bytes → ℕ
@@ -35,9 +35,9 @@ rowsOf r = part r 12 (usedOf r)
 unfoldable pub recorded : Bytes → List Action
 recorded r = commands (countOf r) (rowsOf r)
 
--- what the region means: nothing, or the commands recorded so far, in order
-unfoldable pub recordingOf : Bytes → Option (List Action)
-recordingOf r = cond (eqb (stateOf r) 0) none (some (recorded r))
+-- what the region means: no transaction, or one with the commands recorded so far, in order
+unfoldable pub transactionOf : Bytes → Transaction
+transactionOf r = cond (eqb (stateOf r) 0) off (begun (recorded r))
 
 -- whether a region has the size of a recording: R is at most 262,144
 unfoldable pub sized : Bytes → Bool

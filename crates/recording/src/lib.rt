@@ -15,13 +15,12 @@ pub use turn::turn_finds;
 ghost use mathlib.Core.Path.{_≡_};
 ghost use mathlib.Core.List.{[]};
 ghost use mathlib.Core.Bool.{true};
-ghost use mathlib.Core.Option.{some, none};
 ghost use Prim.Native.Nat.{_+_, _≤_};
 ghost use lib.ListN.{length};
-ghost use Rattle.octets.specs.Options.{isSome};
 ghost use Rattle.recording.specs.Region.{sized, stateFine, recorded};
-ghost use Rattle.recording.specs.Region.{recordingOf, recordingFine};
+ghost use Rattle.recording.specs.Region.{transactionOf, recordingFine};
 ghost use Rattle.recording.specs.Contracts.{Becomes, headed, extended, Used, Fits, Addable};
+ghost use Rattle.server.specs.State.{off, begun, isBegun};
 
 // Where the payload of a WRITE stands, if one was found: len bytes from index `at` of the region.
 pub struct Row {
@@ -71,7 +70,7 @@ pub fn is_fine(r: &[u8]) -> bool
 // Whether r is recording.
 pub fn is_on(r: &[u8]) -> bool
     requires { ⌜ recordingFine (now r) ≡ true ⌝ }
-    ensures { λ b. ⌜ b ≡ isSome (recordingOf (now (r .entry))) ⌝ }
+    ensures { λ b. ⌜ b ≡ isBegun (transactionOf (now (r .entry))) ⌝ }
 {
     octets::u32_at(r, 0) != 0
 }
@@ -105,7 +104,7 @@ fn put_header(r: &mut [u8], state: usize, used: usize, n: usize)
 // Starts a recording with no command, whatever r held.
 pub fn begin(r: &mut [u8])
     requires { ⌜ sized (now r) ≡ true ⌝ }
-    ensures { λ _. ⌜ Becomes (some []) (now (r .entry)) (now (r .exit)) ⌝ }
+    ensures { λ _. ⌜ Becomes (begun []) (now (r .entry)) (now (r .exit)) ⌝ }
 {
     put_header(r, 1, 0, 0);
 }
@@ -113,7 +112,7 @@ pub fn begin(r: &mut [u8])
 // Ends the recording, whatever r held.
 pub fn clear(r: &mut [u8])
     requires { ⌜ sized (now r) ≡ true ⌝ }
-    ensures { λ _. ⌜ Becomes none (now (r .entry)) (now (r .exit)) ⌝ }
+    ensures { λ _. ⌜ Becomes off (now (r .entry)) (now (r .exit)) ⌝ }
 {
     put_header(r, 0, 0, 0);
 }

@@ -16,8 +16,8 @@ use Rattle.server.specs.Store.{Store}
 use Rattle.server.specs.Patterns.{Patterns}
 use Rattle.server.specs.Step.{owesAll, patternsAfterAll}
 use Rattle.server.specs.Queueing.{Queueing}
-use Rattle.server.specs.State.{ClientOf, SlotOf, free, used, StateOf, slotAt, newClient}
-use Rattle.server.specs.State.{withKind, withPatterns, withRecording, withQueue}
+use Rattle.server.specs.State.{off, ClientOf, SlotOf, free, used, StateOf, slotAt, newClient}
+use Rattle.server.specs.State.{withKind, withPatterns, withTransaction, withQueue}
 use Rattle.server.specs.Queue.{queueFits, encoded, afterTake, shutBy, withMessages, fitsAll}
 use Rattle.server.specs.Queue.{afterStep}
 use Rattle.server.specs.Events.{Event, idle, opened, closed, took, consumed, refused, stepped, storeAfterEvent}
@@ -26,6 +26,7 @@ use Rattle.server.specs.Decision.{Call, opens, feeds, takes, closes, Dec
 use Rattle.server.specs.Feed.{Context, contextOf, decideReading, decideCut, decideFeed}
 use Rattle.server.specs.Calls.{kindOf, decideOpenAt, decideOpen, decideTakeFrom, decideTake, decideClose, decide}
 use Rattle.server.specs.Forms.{clientWith, slotWith, stateWith, QueueIn, Keeps}
+use Rattle.server.proofs.Judged.{command-alike}
 
 -- a test between what a function gives
 cond-with : {X Y : Type 0} (f : X → Y) (b : Bool) {x y : X} {u v : Y} → u ≡ f x → v ≡ f y → cond b u v ≡ f (cond b x y)
@@ -74,7 +75,7 @@ module _ {A B : Queueing} (form : A .Queue → B .Queue) (P : A .Queue → Type 
       → decideReading x n k r (client c) ≡ decideReading x n k r c
   unfolding decideReading clientWith
   reading-with x n k blank c = refl
-  reading-with x n k (command a) c = refl
+  reading-with x n k (command a) c = command-alike x n k (client c) c refl a (c .transaction)
   reading-with x n k (invalid r) c = refl
 
   cut-with : (x : Context) (w : Cut) (c : ClientOf A)
@@ -83,11 +84,10 @@ module _ {A B : Queueing} (form : A .Queue → B .Queue) (P : A .Queue → Type 
   cut-with x incomplete c = refl
   cut-with x (whole n k r) c = reading-with x n k r c
 
-  feed-with : (p : Protocol) (t : Context) (bs : Bytes) (x : SlotOf A)
-      → decideFeed p t bs (slot x) ≡ decideFeed p t bs x
+  feed-with : (x : Context) (bs : Bytes) (y : SlotOf A) → decideFeed x bs (slot y) ≡ decideFeed x bs y
   unfolding decideFeed slotWith clientWith
-  feed-with p t bs free = refl
-  feed-with p t bs (used c) = ap (cond (c .shut) (unaltered 3)) (cut-with t (p .cut (c .kind) bs) c)
+  feed-with x bs free = refl
+  feed-with x bs (used c) = ap (cond (c .shut) (unaltered 3)) (cut-with x (x .protocol .cut (c .kind) bs) c)
 
   -- every decision is the same in both forms
   pub decide-with : (p : Protocol) (x : Call) (st : StateOf A) → ((i : ℕ) → QueueIn P (slotAt i st))
@@ -99,8 +99,8 @@ module _ {A B : Queueing} (form : A .Queue → B .Queue) (P : A .Queue → Type 
       ∙ ap (λ (d : Decision). cond (ltb i (st .sizes .slotCount)) d (unaltered 2))
       (open-with i (kindOf form) (slotAt i st))
   decide-with p (feeds i bs) st h =
-      ap (decideFeed p (contextOf st i) bs) (slotAt-with i st)
-      ∙ feed-with p (contextOf st i) bs (slotAt i st)
+      ap (decideFeed (contextOf p st i) bs) (slotAt-with i st)
+      ∙ feed-with (contextOf p st i) bs (slotAt i st)
   decide-with p (takes i len) st h = ap (decideTake i len) (slotAt-with i st) ∙ take-with i len (slotAt i st) (h i)
   decide-with p (closes i) st h = ap (decideClose i) (slotAt-with i st) ∙ close-with i (slotAt i st)
 
@@ -109,7 +109,7 @@ module _ {A B : Queueing} (form : A .Queue → B .Queue) (P : A .Queue → Type 
   -- a client with another queue
   abbrev holding : ClientOf A → B .Queue → ClientOf B
   holding c q =
-      record { kind = c .kind; shut = c .shut; patterns = c .patterns; recording = c .recording; queue = q }
+      record { kind = c .kind; shut = c .shut; patterns = c .patterns; transaction = c .transaction; queue = q }
 
   newClient-with : (k : Kind) → newClient k ≡ client (newClient k)
   unfolding newClient clientWith
@@ -129,7 +129,7 @@ module _ {A B : Queueing} (form : A .Queue → B .Queue) (P : A .Queue → Type 
     shutBy-with : (r : Refusal) (c : ClientOf A) → shutBy (p .written) r (client c) ≡ client (shutBy (p .written) r c)
     unfolding shutBy clientWith
     shutBy-with r c =
-        ap (λ (q : B .Queue). record { kind = c .kind; shut = true; patterns = []; recording = none; queue = q })
+        ap (λ (q : B .Queue). record { kind = c .kind; shut = true; patterns = []; transaction = off; queue = q })
         (keeps .appended (c .queue) (encoded p (c .kind) (error r ∷ [])))
 
     withMessages-with : (ms : List Message) (ps : Patterns) (c : ClientOf A)
@@ -137,7 +137,7 @@ module _ {A B : Queueing} (form : A .Queue → B .Queue) (P : A .Queue → Type 
     unfolding withMessages withPatterns withQueue clientWith
     withMessages-with ms ps c =
         ap (λ (q : B .Queue).
-        record { kind = c .kind; shut = c .shut; patterns = ps; recording = c .recording; queue = q })
+        record { kind = c .kind; shut = c .shut; patterns = ps; transaction = c .transaction; queue = q })
         (keeps .appended (c .queue) (encoded p (c .kind) ms))
 
     fitsAll-with : (Q : ℕ) (ms : List Message) (c : ClientOf A) → fitsAll p Q ms (client c) ≡ fitsAll p Q ms c
@@ -158,7 +158,7 @@ module _ {A B : Queueing} (form : A .Queue → B .Queue) (P : A .Queue → Type 
 
     slotAfterEvent-with : (Q : ℕ) (e : Event) (s : Store) (j : ℕ) (x : SlotOf A) → QueueIn P x
         → slotAfterEvent p Q e s j (slot x) ≡ slot (slotAfterEvent p Q e s j x)
-    unfolding slotAfterEvent slotWith withRecording withKind clientWith
+    unfolding slotAfterEvent slotWith withTransaction withKind clientWith
     slotAfterEvent-with Q idle s j x h = refl
     slotAfterEvent-with Q (opened i k) s j x h = cond-with slot (eqb j i) (ap used (newClient-with k)) refl
     slotAfterEvent-with Q (closed i) s j x h = cond-with slot (eqb j i) refl refl
@@ -166,10 +166,10 @@ module _ {A B : Queueing} (form : A .Queue → B .Queue) (P : A .Queue → Type 
     slotAfterEvent-with Q (consumed i k r) s j x h =
         cond-with slot (eqb j i) (onClient-with _ _ x h (λ c q. refl)) refl
     slotAfterEvent-with Q (refused i k r) s j x h =
-        cond-with slot (eqb j i) (onClient-with _ _ x h (λ c q. shutBy-with r (withRecording none (withKind k c)))) refl
+        cond-with slot (eqb j i) (onClient-with _ _ x h (λ c q. shutBy-with r (withTransaction off (withKind k c)))) refl
     slotAfterEvent-with Q (stepped i k xs) s j x h =
         cond-with slot (eqb j i)
-        (onClient-with _ _ x h (λ c q. afterStep-with Q true xs s (withRecording none (withKind k c))))
+        (onClient-with _ _ x h (λ c q. afterStep-with Q true xs s (withTransaction off (withKind k c))))
         (onClient-with _ _ x h (λ c q. afterStep-with Q false xs s c))
 
     slots-with : (Q : ℕ) (e : Event) (s : Store) (n : ℕ) (xs : List (SlotOf A))

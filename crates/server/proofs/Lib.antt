@@ -6,6 +6,7 @@ pub mod Charges
 pub mod Subscriptions
 pub mod Steps
 pub mod Outcomes
+pub mod Judged
 pub mod Changes
 pub mod Queues
 pub mod Limits

@@ -14,7 +14,7 @@ module _ {A B : Queueing} (form : A .Queue → B .Queue) where
         kind = c .kind;
         shut = c .shut;
         patterns = c .patterns;
-        recording = c .recording;
+        transaction = c .transaction;
         queue = form (c .queue);
       }
 

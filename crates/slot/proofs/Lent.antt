@@ -1,8 +1,7 @@
 -- What an operation makes of a slot when code lends it a region of the slot and the region comes back.
 use mathlib.Core.Path.{_≡_, ap}
-use mathlib.Core.List.{List, [], _∷_, _++_}
+use mathlib.Core.List.{[], _∷_, _++_}
 use mathlib.Core.Bool.{Bool, true, false}
-use mathlib.Core.Option.{Option, some}
 use Prim.Native.Nat.{ℕ, _+_, _-_, _≤_}
 use native.Mathlib.Numerals.{add-one}
 use native.Mathlib.Omega.{arith}
@@ -11,8 +10,7 @@ use lib.ListN.{length, take, drop, length-append}
 use borrow.Author.Tests.{le-leb}
 use borrow.Rule.Slice.PartMut.{putMid}
 use Rattle.octets.specs.Octets.{Bytes}
-use Rattle.octets.specs.Options.{isSome}
-use Rattle.protocol.specs.Terms.{Action, Message}
+use Rattle.protocol.specs.Terms.{Message}
 use Rattle.protocol.specs.declared.Kind.{Kind}
 use Rattle.message.specs.Forms.{written}
 use Rattle.server.specs.Patterns.{Patterns, held, addPattern}
@@ -23,13 +21,13 @@ use Rattle.recording.specs.Command.{actionOf}
 use Rattle.recording.specs.Region.{sized}
 use Rattle.recording.specs.Region as recordings
 use Rattle.recording.specs.Contracts as recording
-use Rattle.recording.proofs.Regions.{fine-rules, on-some}
+use Rattle.recording.proofs.Regions.{fine-rules, on-begun}
 use Rattle.subscriptions.specs.Region.{patternsOf}
 use Rattle.subscriptions.specs.Contracts as subscriptions
 use Rattle.subscriptions.proofs.Cells.{length-patternsOf}
 use Rattle.subscriptions.proofs.Cells as cells
-use Rattle.server.specs.State.{used, withPatterns, withRecording, withQueue}
-use Rattle.slot.specs.Image.{recorded, commandsOf, owed}
+use Rattle.server.specs.State.{begun, Transaction, isBegun, commandsOf, used, withPatterns, withTransaction, withQueue}
+use Rattle.slot.specs.Image.{recorded, owed}
 use Rattle.slot.specs.Region.{phaseOf, kindByte, subscriptionsPart, recordingPart, queuePart, kindNumbered, clientOf}
 use Rattle.slot.specs.Region.{reserveOf, ClientRules}
 use Rattle.slot.specs.Contracts.{roomOf, HasClient, HasOpen, Becomes, Fits, Recordable, Addable}
@@ -76,17 +74,17 @@ fits-new p ps e = rw (e, length-append ps (p ∷ [])) (next (length ps))
 
 -- ---- the recording
 
-pub lent-record : {R : ℕ} {s v : Bytes} {m : Option (List Action)} → HasOpen R s
+pub lent-record : {R : ℕ} {s v : Bytes} {m : Transaction} → HasOpen R s
     → recording.Becomes m (take (4116 + R - 4104) (drop 4104 s)) v
-    → Becomes R s (putMid 4104 (4116 + R - 4104) s v) (used (withRecording m (clientOf R s)))
+    → Becomes R s (putMid 4104 (4116 + R - 4104) s v) (used (withTransaction m (clientOf R s)))
 lent-record {R} {s} {v} {m} h b =
     let g : recording.Becomes m (recordingPart R s) v = rw (lent-recording R s) at b in
     rw (back-recording R s v (omega (arith, h .rules .sized)) (g .size)) (becomes-recording h g)
 
-recorded-part : (R : ℕ) (s : Bytes) → isSome (clientOf R s .recording) ≡ true
-    → commandsOf (clientOf R s .recording) ≡ recordings.recorded (recordingPart R s)
+recorded-part : (R : ℕ) (s : Bytes) → isBegun (clientOf R s .transaction) ≡ true
+    → commandsOf (clientOf R s .transaction) ≡ recordings.recorded (recordingPart R s)
 unfolding clientOf
-recorded-part R s e = ap commandsOf (on-some (recordingPart R s) e)
+recorded-part R s e = ap commandsOf (on-begun (recordingPart R s) e)
 
 room-part : {R : ℕ} {s : Bytes} → ClientRules R s → length (recordingPart R s) - 12 ≡ R
 room-part {R} {s} w = omega (arith, length-recordingPart R s (omega (arith, w .sized)))
@@ -103,13 +101,13 @@ unfolding clientOf
 recordable-part {R} {id} {s} {p} a =
     record {
       fine = a .client .rules .recording;
-      on = on-some (recordingPart R s) (a .on);
+      on = on-begun (recordingPart R s) (a .on);
       known = a .known;
       fits = rw (room-part (a .client .rules), ← (recorded-part R s (a .on))) (a .fits);
     }
 
 pub lent-recorded : {R id : ℕ} {s p v : Bytes} → Recordable R s id p
-    → recording.Becomes (some (recordings.recorded (recordingPart R s) ++ (actionOf id p ∷ []))) (recordingPart R s) v
+    → recording.Becomes (begun (recordings.recorded (recordingPart R s) ++ (actionOf id p ∷ []))) (recordingPart R s) v
     → Becomes R s (putMid 4104 (4116 + R - 4104) s v) (used (recorded (actionOf id p) (clientOf R s)))
 unfolding recorded
 lent-recorded {R} {id} {s} {p} {v} a b =

@@ -2,25 +2,22 @@
 use mathlib.Core.Path.{_≡_, sym, ap, _∙_}
 use mathlib.Core.List.{List}
 use mathlib.Core.Bool.{true}
-use mathlib.Core.Option.{Option, some}
 use Prim.Native.Nat.{ℕ, _+_, _-_, _≤_}
 use native.Mathlib.Omega.{arith}
 use lib.ListN.{length}
 use borrow.Author.Tests.{eqb-true, le-leb}
 use Rattle.octets.specs.Octets.{Bytes}
 use Rattle.octets.specs.Part.{part}
-use Rattle.octets.specs.Options.{isSome}
 use Rattle.octets.proofs.Parts.{length-part}
 use Rattle.protocol.specs.Terms.{Action}
-use Rattle.server.specs.State.{recordingCharge, recordingFits}
+use Rattle.server.specs.State.{Transaction, begun, isBegun, commandsOf, recordingCharge, recordingFits}
 use Rattle.queue.specs.Meaning.{kept, keptRows, isOverflown}
 use Rattle.queue.specs.Region.{InStep, pendingOf, tail, pendingEnd}
 use Rattle.queue.proofs.Regions.{length-queuedOf, pendingOf-kept, kept-flag}
-use Rattle.recording.specs.Region.{recordingOf, usedOf, countOf}
+use Rattle.recording.specs.Region.{transactionOf, usedOf, countOf}
 use Rattle.recording.specs.Region as recordings
 use Rattle.recording.proofs.Tests.{and-true-true}
-use Rattle.recording.proofs.Regions.{fine-rules, used-charge, count-recorded, on-some}
-use Rattle.slot.specs.Image.{commandsOf}
+use Rattle.recording.proofs.Regions.{fine-rules, used-charge, count-recorded, on-begun}
 use Rattle.slot.specs.Region.{phaseOf, recordingPart, clientOf, Bare}
 use Rattle.slot.specs.Contracts.{roomOf, HasClient, HasOpen}
 use Rattle.slot.proofs.Operations.{length-recordingPart, room-queuePart, open-queue}
@@ -67,16 +64,16 @@ pub shut-bare : {R : ℕ} {s : Bytes} → HasClient R s → clientOf R s .shut �
 unfolding clientOf
 shut-bare {R} {s} h e = h .rules .bare (eqb-true (phaseOf s) 2 e)
 
-some-is : {xs : List Action} (m : Option (List Action)) → m ≡ some xs → isSome m ≡ true
-some-is m e = ap isSome e
+begun-is : {xs : List Action} (m : Transaction) → m ≡ begun xs → isBegun m ≡ true
+begun-is m e = ap isBegun e
 
-pub client-recording : {R : ℕ} {s : Bytes} {xs : List Action} → HasClient R s → clientOf R s .recording ≡ some xs
+pub client-recording : {R : ℕ} {s : Bytes} {xs : List Action} → HasClient R s → clientOf R s .transaction ≡ begun xs
     → recordingFits R xs ≡ true
 unfolding clientOf recordingFits
 client-recording {R} {s} {xs} h e =
     let r = recordingPart R s in
     let w = fine-rules (h .rules .recording) in
-    let g : recordings.recorded r ≡ xs = ap commandsOf (sym (on-some r (some-is (recordingOf r) e)) ∙ e) in
+    let g : recordings.recorded r ≡ xs = ap commandsOf (sym (on-begun r (begun-is (transactionOf r) e)) ∙ e) in
     let l : countOf r ≡ length xs = count-recorded r ∙ ap length g in
     let u : usedOf r ≡ recordingCharge xs = used-charge r (h .rules .recording) ∙ ap recordingCharge g in
     and-true-true (le-leb (length xs) 64 (omega (arith, w .few)))

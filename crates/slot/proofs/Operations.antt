@@ -1,8 +1,7 @@
 -- What an operation on one region, or on a head byte, makes of a slot with a client.
 use mathlib.Core.Path.{_≡_, refl, ap, _∙_}
-use mathlib.Core.List.{List, [], _∷_, append-nil}
+use mathlib.Core.List.{[], _∷_, append-nil}
 use mathlib.Core.Bool.{true}
-use mathlib.Core.Option.{Option, none}
 use Prim.Native.Nat.{ℕ, _+_, _-_, _/_, _≤_}
 use native.Mathlib.Omega.{arith}
 use lib.ListN.{length, take, drop, set, length-drop}
@@ -11,7 +10,7 @@ use borrow.Author.Tests.{le-leb}
 use borrow.Rule.Slice.PartMut.{putMid}
 use Rattle.octets.specs.Octets.{Bytes}
 use Rattle.octets.proofs.Parts.{length-part, lent-part}
-use Rattle.protocol.specs.Terms.{Action, error}
+use Rattle.protocol.specs.Terms.{error}
 use Rattle.protocol.specs.declared.Kind.{Kind}
 use Rattle.protocol.specs.declared.Kind.the-variants.{Packets, Stream, Framed, Text}
 use Rattle.protocol.specs.declared.Refusal.{Refusal}
@@ -22,12 +21,13 @@ use Rattle.queue.specs.Meaning as Q
 use Rattle.queue.specs.Meaning.{Queue}
 use Rattle.queue.specs.Region.{InStep, AtRest, queueOf, room}
 use Rattle.queue.specs.Post.{Outcome, Clearing}
-use Rattle.recording.specs.Region.{recordingFine, recordingOf, sized}
+use Rattle.recording.specs.Region.{recordingFine, transactionOf, sized}
 use Rattle.recording.specs.Contracts as recording
 use Rattle.recording.proofs.Regions as R
 use Rattle.subscriptions.specs.Region.{subscriptionsFine, patternsOf}
 use Rattle.subscriptions.specs.Contracts as subscriptions
-use Rattle.server.specs.State.{free, used, newClient, withKind, withPatterns, withRecording, withQueue}
+use Rattle.server.specs.State.{Transaction, free, used, newClient, withKind, withPatterns, withTransaction, withQueue}
+use Rattle.server.specs.State.{off}
 use Rattle.server.specs.Queue.{shutBy}
 use Rattle.slot.specs.Image.{inBytes}
 use Rattle.slot.specs.Image.{refused}
@@ -150,16 +150,16 @@ becomes-patterns {R} {s} {v} {ps} h b =
     withPatterns x (image (phaseOf s) (kindByte s) (subscriptionsPart s) (recordingPart R s) (queuePart R s)))
     (b .holds))
 
-pub becomes-recording : {R : ℕ} {s v : Bytes} {m : Option (List Action)} → HasOpen R s
-    → recording.Becomes m (recordingPart R s) v → Becomes R s (sets s 4104 v) (used (withRecording m (clientOf R s)))
-unfolding clientOf withRecording
+pub becomes-recording : {R : ℕ} {s v : Bytes} {m : Transaction} → HasOpen R s
+    → recording.Becomes m (recordingPart R s) v → Becomes R s (sets s 4104 v) (used (withTransaction m (clientOf R s)))
+unfolding clientOf withTransaction
 becomes-recording {R} {s} {v} {m} h b =
     let l : length v ≡ 12 + R = b .size ∙ length-recordingPart R s (omega (arith, h .rules .sized)) in
     becomes (holds-recording (h .rules .sized) (holds R s) v l)
     (open-with h (h .rules .subscriptions) (b .fine) (open-queue h))
     (ap
-    (λ (x : Option (List Action)).
-    withRecording x (image (phaseOf s) (kindByte s) (subscriptionsPart s) (recordingPart R s) (queuePart R s)))
+    (λ (x : Transaction).
+    withTransaction x (image (phaseOf s) (kindByte s) (subscriptionsPart s) (recordingPart R s) (queuePart R s)))
     (b .holds))
 
 pub becomes-queue : {R : ℕ} {s v : Bytes} {x : Queue} → HasClient R s → length v ≡ length (queuePart R s)
@@ -194,7 +194,7 @@ becomes-free R s h =
 
 -- a recording and patterns emptied
 pub stripping : {R : ℕ} {s p r : Bytes} → 4132 + R ≤ length s → subscriptions.Becomes [] (subscriptionsPart s) p
-    → recording.Becomes none (recordingPart R (sets s 4 p)) r → Stripping R s (sets (sets s 4 p) 4104 r)
+    → recording.Becomes off (recordingPart R (sets s 4 p)) r → Stripping R s (sets (sets s 4 p) 4104 r)
 unfolding clientOf
 stripping {R} {s} {p} {r} n bp br =
     let lp : length p ≡ 4100 = bp .size ∙ length-subscriptionsPart s (omega arith) in
@@ -210,7 +210,7 @@ stripping {R} {s} {p} {r} n bp br =
       bare =
           record {
             no-patterns = ap patternsOf (h .subscriptions) ∙ bp .holds;
-            no-recording = ap recordingOf (h .recording) ∙ br .holds;
+            no-recording = ap transactionOf (h .recording) ∙ br .holds;
           };
       same-queue = h .queue;
     }

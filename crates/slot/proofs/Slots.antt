@@ -2,7 +2,6 @@
 use mathlib.Core.Path.{_≡_, refl, sym, ap, _∙_}
 use mathlib.Core.List.{[], _∷_}
 use mathlib.Core.Bool.{true}
-use mathlib.Core.Option.{none}
 use Prim.Native.Nat.{ℕ, _+_, _-_, _≤_}
 use native.Mathlib.Nat.{add-zero}
 use native.Mathlib.Omega.{arith}
@@ -14,11 +13,11 @@ use Rattle.octets.specs.Octets.{Bytes}
 use Rattle.octets.proofs.Parts.{drop-sets, drop-sets-add, part-sets-same, sets-whole, part-sets-before}
 use Rattle.octets.proofs.Parts.{part-sets-after, getD-sets-before, getD-sets-after}
 use Rattle.queue.specs.Region.{InStep, queueOf}
-use Rattle.recording.specs.Region.{recordingFine, recordingOf}
+use Rattle.recording.specs.Region.{recordingFine, transactionOf}
 use Rattle.recording.specs.Contracts as recording
 use Rattle.subscriptions.specs.Region.{subscriptionsFine, patternsOf}
 use Rattle.subscriptions.specs.Contracts as subscriptions
-use Rattle.server.specs.State.{free, used}
+use Rattle.server.specs.State.{off, free, used}
 use Rattle.slot.specs.Image.{ClientImage}
 use Rattle.slot.specs.Region.{phaseOf, kindByte, subscriptionsPart, recordingPart, queuePart, kindNumbered, clientOf, slotOf}
 use Rattle.slot.specs.Region.{reserveOf, ClientRules}
@@ -107,7 +106,7 @@ image f k p r q =
       kind = kindNumbered k;
       shut = eqb f 2;
       patterns = patternsOf p;
-      recording = recordingOf r;
+      transaction = transactionOf r;
       queue = queueOf q;
     }
 
@@ -121,7 +120,7 @@ pub record Fine (R n f k : ℕ) (p r q : Bytes) : Type 0 where
   pub recording : recordingFine r ≡ true
   pub queue : InStep (reserveOf f) q
   pub no-patterns : f ≡ 2 → patternsOf p ≡ []
-  pub no-recording : f ≡ 2 → recordingOf r ≡ none
+  pub no-recording : f ≡ 2 → transactionOf r ≡ off
 
 pub client-fine : {R : ℕ} {s : Bytes} → HasClient R s
     → Fine R (length s) (phaseOf s) (kindByte s) (subscriptionsPart s) (recordingPart R s) (queuePart R s)
@@ -179,7 +178,7 @@ rules-holds h w =
       bare =
           λ e. record {
             no-patterns = ap patternsOf (h .subscriptions) ∙ w .no-patterns (sym (h .phase) ∙ e);
-            no-recording = ap recordingOf (h .recording) ∙ w .no-recording (sym (h .phase) ∙ e);
+            no-recording = ap transactionOf (h .recording) ∙ w .no-recording (sym (h .phase) ∙ e);
           };
     }
 

@@ -1,19 +1,17 @@
 -- The test of a slot is true just where its rules hold and nothing is pending.
 use mathlib.Core.Path.{_≡_, refl, sym, ap, _∙_}
-use mathlib.Core.List.{List, [], _∷_}
+use mathlib.Core.List.{[], _∷_}
 use mathlib.Core.Bool.{Bool, true, false, cond, not, true≢false}
-use mathlib.Core.Option.{Option, some, none}
 use Prim.Native.Nat.{ℕ, _+_, _≤_}
 use native.Mathlib.Omega.{arith}
 use lib.Dec.{eqb, leb}
 use lib.ListN.{length}
 use borrow.Author.Tests.{eq-eqb, ne-eqb, eqb-true, eqb-false, le-leb, leb-true}
 use Rattle.octets.specs.Octets.{Bytes}
-use Rattle.octets.specs.Options.{isSome}
-use Rattle.protocol.specs.Terms.{Action}
 use Rattle.server.specs.Patterns.{Patterns}
 use Rattle.queue.specs.Region.{AtRest, queueFine}
 use Rattle.queue.proofs.Regions.{fine-rest, rest-fine, pendingOf-rest}
+use Rattle.server.specs.State.{off, begun, Transaction, isBegun}
 use Rattle.recording.specs.Region.{recordingFine}
 use Rattle.recording.proofs.Tests.{either, and-both, and-true-true}
 use Rattle.subscriptions.specs.Region.{subscriptionsFine}
@@ -59,24 +57,24 @@ empty-patterns : (ps : Patterns) → length ps ≡ 0 → ps ≡ []
 empty-patterns [] e = refl
 empty-patterns (p ∷ ps) e = absurd (omega arith)
 
-not-recording : (m : Option (List Action)) → not (isSome m) ≡ true → m ≡ none
-not-recording none e = refl
-not-recording (some xs) e = absurd (true≢false (sym e))
+not-recording : (m : Transaction) → not (isBegun m) ≡ true → m ≡ off
+not-recording off e = refl
+not-recording (begun xs) e = absurd (true≢false (sym e))
 
 pub bare-test : {c : ClientImage} → isBare c ≡ true → Bare c
 unfolding isBare
 bare-test {c} e =
-    let a = and-both (eqb (length (c .patterns)) 0) (not (isSome (c .recording))) e in
+    let a = and-both (eqb (length (c .patterns)) 0) (not (isBegun (c .transaction))) e in
     record {
       no-patterns = empty-patterns (c .patterns) (eqb-true (length (c .patterns)) 0 (a .0));
-      no-recording = not-recording (c .recording) (a .1);
+      no-recording = not-recording (c .transaction) (a .1);
     }
 
 pub test-bare : {c : ClientImage} → Bare c → isBare c ≡ true
 unfolding isBare
 test-bare {c} b =
     and-true-true (eq-eqb (length (c .patterns)) 0 (ap length (b .no-patterns)))
-    (ap (λ (m : Option (List Action)). not (isSome m)) (b .no-recording))
+    (ap (λ (m : Transaction). not (isBegun m)) (b .no-recording))
 
 -- ---- a client
 

@@ -7,17 +7,16 @@ use lib.Dec.{leb}
 use lib.ListN.{length}
 use lib.Seq.{sets}
 use Rattle.octets.specs.Octets.{Bytes}
-use Rattle.octets.specs.Options.{isSome}
 use Rattle.protocol.specs.Terms.{Action, payload}
 use Rattle.server.specs.Patterns.{addPattern, removePattern}
-use Rattle.server.specs.State.{recordingFits, free, used, withPatterns}
+use Rattle.server.specs.State.{isBegun, commandsOf, recordingFits, free, used, withPatterns}
 use Rattle.queue.specs.Meaning.{kept}
 use Rattle.queue.specs.Rows.{firstLength, firstMessage}
 use Rattle.recording.specs.Command.{actionOf, commandFine}
 use Rattle.recording.specs.Region.{recordingFine}
 use Rattle.subscriptions.specs.Region.{subscriptionsFine}
 use Rattle.server.specs.Queue.{afterTake}
-use Rattle.slot.specs.Image.{ClientImage, SlotImage, commandsOf}
+use Rattle.slot.specs.Image.{ClientImage, SlotImage}
 use Rattle.slot.specs.Region.{phaseOf, kindByte, subscriptionsPart, recordingPart, queuePart, clientOf, slotOf}
 use Rattle.slot.specs.Region.{Bare, ClientRules, SlotRules}
 
@@ -108,15 +107,15 @@ pub record Taking (R : ℕ) (s out : Bytes) (n : ℕ) (s′ out′ : Bytes) : Ty
 
 -- whether a command with a payload of n bytes fits behind those recorded
 pub record Fits (R : ℕ) (c : ClientImage) (n : ℕ) (b : Bool) : Type 0 where
-  pub value : (a : Action) → isSome (c .recording) ≡ true → length (payload a) ≡ n
-      → b ≡ recordingFits R (commandsOf (c .recording) ++ (a ∷ []))
+  pub value : (a : Action) → isBegun (c .transaction) ≡ true → length (payload a) ≡ n
+      → b ≡ recordingFits R (commandsOf (c .transaction) ++ (a ∷ []))
 
 -- an open client records, and the command with this ID and payload can be recorded
 pub record Recordable (R : ℕ) (s : Bytes) (id : ℕ) (p : Bytes) : Type 0 where
   pub client : HasOpen R s
-  pub on : isSome (clientOf R s .recording) ≡ true
+  pub on : isBegun (clientOf R s .transaction) ≡ true
   pub known : commandFine id (length p) ≡ true
-  pub fits : recordingFits R (commandsOf (clientOf R s .recording) ++ (actionOf id p ∷ [])) ≡ true
+  pub fits : recordingFits R (commandsOf (clientOf R s .transaction) ++ (actionOf id p ∷ [])) ≡ true
 
 -- an open client can add the pattern: at most 255 bytes, and at most the sixteenth
 pub record Addable (R : ℕ) (s p : Bytes) : Type 0 where

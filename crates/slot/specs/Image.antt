@@ -4,7 +4,7 @@ use Prim.Native.Nat.{ℕ}
 use mathlib.Core.Path.{_≡_}
 use mathlib.Core.List.{List, [], _∷_, _++_}
 use mathlib.Core.Bool.{cond}
-use mathlib.Core.Option.{Option, some, none}
+use mathlib.Core.Option.{some, none}
 use lib.ListN.{length, take}
 use Rattle.octets.specs.Octets.{Bytes}
 use Rattle.protocol.specs.Terms.{Action, Message}
@@ -18,7 +18,7 @@ use Rattle.queue.specs.Meaning.{Pending, kept, overflown, Queue, queueWith, owi
 use Rattle.queue.specs.Rows.{rows, isEmpty, firstMessage}
 use Rattle.server.specs.Step.{subscribed}
 use Rattle.server.specs.Queueing.{Queueing}
-use Rattle.server.specs.State.{ClientOf, SlotOf, used, withRecording, withQueue}
+use Rattle.server.specs.State.{begun, commandsOf, ClientOf, SlotOf, used, withTransaction, withQueue}
 use Rattle.server.specs.Queue.{shutBy}
 use Rattle.subscriptions.specs.Region.{matching}
 
@@ -41,14 +41,9 @@ ClientImage = ClientOf inBytes
 abbrev pub SlotImage : Type 0
 SlotImage = SlotOf inBytes
 
--- the commands of a recording; none where there is no recording
-abbrev pub commandsOf : Option (List Action) → List Action
-commandsOf none = []
-commandsOf (some xs) = xs
-
 -- the client with one command more recorded
 unfoldable pub recorded : Action → ClientImage → ClientImage
-recorded a c = withRecording (some (commandsOf (c .recording) ++ (a ∷ []))) c
+recorded a c = withTransaction (begun (commandsOf (c .transaction) ++ (a ∷ []))) c
 
 -- shutting, as the simple server does it
 abbrev pub refused : Refusal → ClientImage → ClientImage

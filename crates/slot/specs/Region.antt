@@ -5,19 +5,17 @@
 use mathlib.Core.Path.{_≡_}
 use mathlib.Core.List.{[]}
 use mathlib.Core.Bool.{Bool, true, cond, not, _&&_}
-use mathlib.Core.Option.{none}
 use Prim.Native.Nat.{ℕ, _+_, _≤_}
 use lib.Dec.{eqb, leb}
 use lib.ListN.{length, drop, getD}
 use Rattle.octets.specs.Octets.{Bytes}
 use Rattle.octets.specs.Part.{part}
-use Rattle.octets.specs.Options.{isSome}
 use Rattle.protocol.specs.declared.Kind.{Kind}
 use Rattle.protocol.specs.declared.Kind.the-variants.{Packets, Stream, Framed, Text}
 use Rattle.queue.specs.Region.{InStep, queueFine, queueOf}
-use Rattle.recording.specs.Region.{recordingFine, recordingOf}
+use Rattle.recording.specs.Region.{recordingFine, transactionOf}
 use Rattle.subscriptions.specs.Region.{subscriptionsFine, patternsOf}
-use Rattle.server.specs.State.{free, used}
+use Rattle.server.specs.State.{off, isBegun, free, used}
 use Rattle.slot.specs.Image.{ClientImage, SlotImage}
 
 -- ---- the regions
@@ -56,7 +54,7 @@ clientOf R s =
       kind = kindNumbered (kindByte s);
       shut = eqb (phaseOf s) 2;
       patterns = patternsOf (subscriptionsPart s);
-      recording = recordingOf (recordingPart R s);
+      transaction = transactionOf (recordingPart R s);
       queue = queueOf (queuePart R s);
     }
 
@@ -72,7 +70,7 @@ reserveOf phase = cond (eqb phase 2) 0 64
 -- a shut client has no patterns and no recording
 pub record Bare (c : ClientImage) : Type 0 where
   pub no-patterns : c .patterns ≡ []
-  pub no-recording : c .recording ≡ none
+  pub no-recording : c .transaction ≡ off
 
 -- a client, at any time
 pub record ClientRules (R : ℕ) (s : Bytes) : Type 0 where
@@ -90,7 +88,7 @@ SlotRules R s = (phaseOf s ≡ 0 → ⊥) → ClientRules R s
 
 -- whether a client has no patterns and no recording
 unfoldable pub isBare : ClientImage → Bool
-isBare c = eqb (length (c .patterns)) 0 && not (isSome (c .recording))
+isBare c = eqb (length (c .patterns)) 0 && not (isBegun (c .transaction))
 
 -- the rules of the three regions between steps, as a test
 unfoldable pub regionsFine : ℕ → Bytes → Bool

@@ -1,11 +1,9 @@
 // The recording of a slot's client.
 ghost use mathlib.Core.Path.{_≡_};
 ghost use mathlib.Core.List.{[]};
-ghost use mathlib.Core.Option.{some, none};
 ghost use Prim.Native.Nat.{_+_};
-ghost use Rattle.octets.specs.Options.{isSome};
 ghost use Rattle.recording.specs.Command.{actionOf};
-ghost use Rattle.server.specs.State.{used, withRecording};
+ghost use Rattle.server.specs.State.{off, begun, isBegun, used, withTransaction};
 ghost use Rattle.slot.specs.Image.{recorded};
 ghost use Rattle.slot.specs.Region.{clientOf};
 ghost use Rattle.slot.specs.Contracts.{HasClient, HasOpen, Becomes, Fits, Recordable};
@@ -13,7 +11,7 @@ ghost use Rattle.slot.specs.Contracts.{HasClient, HasOpen, Becomes, Fits
 // Whether the client records.
 pub fn is_recording(s: &[u8], r: usize) -> bool
     requires { ⌜ HasClient r (now s) ⌝ }
-    ensures { λ b. ⌜ b ≡ isSome (clientOf r (now (s .entry)) .recording) ⌝ }
+    ensures { λ b. ⌜ b ≡ isBegun (clientOf r (now (s .entry)) .transaction) ⌝ }
 {
     recording::is_on(&s[4104..4116 + r])
 }
@@ -22,7 +20,7 @@ pub fn is_recording(s: &[u8], r: usize) -> bool
 pub fn begin(s: &mut [u8], r: usize)
     requires { ⌜ HasOpen r (now s) ⌝ }
     ensures { λ _. ⌜ Becomes r (now (s .entry)) (now (s .exit))
-        (used (withRecording (some []) (clientOf r (now (s .entry))))) ⌝ }
+        (used (withTransaction (begun []) (clientOf r (now (s .entry))))) ⌝ }
 {
     recording::begin(&mut s[4104..4116 + r]);
 }
@@ -31,7 +29,7 @@ pub fn begin(s: &mut [u8], r: usize)
 pub fn end_recording(s: &mut [u8], r: usize)
     requires { ⌜ HasOpen r (now s) ⌝ }
     ensures { λ _. ⌜ Becomes r (now (s .entry)) (now (s .exit))
-        (used (withRecording none (clientOf r (now (s .entry))))) ⌝ }
+        (used (withTransaction off (clientOf r (now (s .entry))))) ⌝ }
 {
     recording::clear(&mut s[4104..4116 + r]);
 }

@@ -30,7 +30,6 @@ pub use parts::recording_part;
 pub use parts::store_part;
 pub use parts::subscriptions_part;
 pub use patterns::add_pattern;
-pub use patterns::pattern_fits;
 pub use patterns::remove_pattern;
 pub use queues::first_length;
 pub use queues::has_message;

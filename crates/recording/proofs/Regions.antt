@@ -7,12 +7,12 @@ use native.Mathlib.Nat.{zero-add, add-zero}
 use native.Mathlib.Omega.{arith}
 use lib.Dec.{eqb, leb}
 use lib.ListN.{length, length-append}
-use borrow.Author.Tests.{leb-true, leb-false, le-leb, lt-leb}
+use borrow.Author.Tests.{eqb-true, leb-true, leb-false, le-leb, lt-leb}
 use Rattle.octets.specs.Octets.{Bytes}
 use Rattle.octets.proofs.Parts.{length-part}
 use Rattle.protocol.specs.Terms.{Action, payload}
-use Rattle.server.specs.State.{begun, isBegun, recordingCharge, recordingFits}
-use Rattle.recording.specs.Command.{rowsFine}
+use Rattle.server.specs.State.{begun, isBegun, commandsOf, recordingCharge, recordingFits}
+use Rattle.recording.specs.Command.{commands, rowsFine}
 use Rattle.recording.specs.Region.{stateOf, usedOf, countOf, roomOf, rowsOf, recorded, transactionOf, sized}
 use Rattle.recording.specs.Region.{stateFine, recordingFine}
 use Rattle.recording.specs.Contracts.{Fits}
@@ -79,6 +79,18 @@ count-recorded r = sym (length-commands (countOf r) (rowsOf r))
 pub isBegun-on : (r : Bytes) → isBegun (transactionOf r) ≡ not (eqb (stateOf r) 0)
 unfolding transactionOf
 isBegun-on r = either (eqb (stateOf r) 0) (λ t. rw t) (λ t. rw t)
+
+none-counted : (state n : ℕ) → stateFine state n ≡ true → eqb state 0 ≡ true → n ≡ 0
+unfolding stateFine
+none-counted state n h e = eqb-true n 0 (rw (eqb-true state 0 e) at h)
+
+-- the commands of the rows are those of the transaction: without one there are none
+pub recorded-commands : (r : Bytes) → recordingFine r ≡ true → recorded r ≡ commandsOf (transactionOf r)
+unfolding recorded transactionOf commands
+recorded-commands r h =
+    either (eqb (stateOf r) 0)
+    (λ e. rw (e, none-counted (stateOf r) (countOf r) (fine-rules h .state) e))
+    (λ e. rw e)
 
 pub on-begun : (r : Bytes) → isBegun (transactionOf r) ≡ true → transactionOf r ≡ begun (recorded r)
 unfolding transactionOf

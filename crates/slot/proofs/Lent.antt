@@ -1,19 +1,16 @@
 -- What an operation makes of a slot when code lends it a region of the slot and the region comes back.
-use mathlib.Core.Path.{_≡_, ap}
+use mathlib.Core.Path.{_≡_, sym}
 use mathlib.Core.List.{[], _∷_, _++_}
-use mathlib.Core.Bool.{Bool, true, false}
+use mathlib.Core.Bool.{Bool, true}
 use Prim.Native.Nat.{ℕ, _+_, _-_, _≤_}
-use native.Mathlib.Numerals.{add-one}
 use native.Mathlib.Omega.{arith}
-use lib.Dec.{leb, ltb}
-use lib.ListN.{length, take, drop, length-append}
-use borrow.Author.Tests.{le-leb}
+use lib.ListN.{length, take, drop}
 use borrow.Rule.Slice.PartMut.{putMid}
 use Rattle.octets.specs.Octets.{Bytes}
 use Rattle.protocol.specs.Terms.{Message}
 use Rattle.protocol.specs.declared.Kind.{Kind}
 use Rattle.message.specs.Forms.{written}
-use Rattle.server.specs.Patterns.{Patterns, held, addPattern}
+use Rattle.server.specs.Patterns.{Patterns}
 use Rattle.queue.specs.Meaning.{Queue, owing}
 use Rattle.queue.specs.Region.{InStep, queueOf, room}
 use Rattle.queue.specs.Post.{Outcome}
@@ -21,12 +18,12 @@ use Rattle.recording.specs.Command.{actionOf}
 use Rattle.recording.specs.Region.{sized}
 use Rattle.recording.specs.Region as recordings
 use Rattle.recording.specs.Contracts as recording
-use Rattle.recording.proofs.Regions.{fine-rules, on-begun}
+use Rattle.recording.proofs.Regions.{fine-rules, recorded-commands, on-begun}
 use Rattle.subscriptions.specs.Region.{patternsOf}
 use Rattle.subscriptions.specs.Contracts as subscriptions
 use Rattle.subscriptions.proofs.Cells.{length-patternsOf}
 use Rattle.subscriptions.proofs.Cells as cells
-use Rattle.server.specs.State.{begun, Transaction, isBegun, commandsOf, used, withPatterns, withTransaction, withQueue}
+use Rattle.server.specs.State.{begun, Transaction, commandsOf, used, withPatterns, withTransaction, withQueue}
 use Rattle.slot.specs.Image.{recorded, owed}
 use Rattle.slot.specs.Region.{phaseOf, kindByte, subscriptionsPart, recordingPart, queuePart, kindNumbered, clientOf}
 use Rattle.slot.specs.Region.{reserveOf, ClientRules}
@@ -60,18 +57,6 @@ pub addable-part : {R : ℕ} {s p : Bytes} → Addable R s p → subscriptions.A
 unfolding clientOf
 addable-part a = record { fine = a .client .rules .subscriptions; short = a .short; few = a .few }
 
-pub fits-held : (p : Bytes) (ps : Patterns) → length ps ≤ 16 → held p ps ≡ true
-    → leb (length (addPattern p ps)) 16 ≡ true
-unfolding addPattern
-fits-held p ps l e = rw e (le-leb (length ps) 16 l)
-
-pub fits-new : (p : Bytes) (ps : Patterns) → held p ps ≡ false → ltb (length ps) 16 ≡ leb (length (addPattern p ps)) 16
-unfolding addPattern
-fits-new p ps e = rw (e, length-append ps (p ∷ [])) (next (length ps))
-  where
-    next : (n : ℕ) → ltb n 16 ≡ leb (n + 1) 16
-    next n = rw (add-one n)
-
 -- ---- the recording
 
 pub lent-record : {R : ℕ} {s v : Bytes} {m : Transaction} → HasOpen R s
@@ -81,10 +66,10 @@ lent-record {R} {s} {v} {m} h b =
     let g : recording.Becomes m (recordingPart R s) v = rw (lent-recording R s) at b in
     rw (back-recording R s v (omega (arith, h .rules .sized)) (g .size)) (becomes-recording h g)
 
-recorded-part : (R : ℕ) (s : Bytes) → isBegun (clientOf R s .transaction) ≡ true
+recorded-part : {R : ℕ} {s : Bytes} → ClientRules R s
     → commandsOf (clientOf R s .transaction) ≡ recordings.recorded (recordingPart R s)
 unfolding clientOf
-recorded-part R s e = ap commandsOf (on-begun (recordingPart R s) e)
+recorded-part {R} {s} w = sym (recorded-commands (recordingPart R s) (w .recording))
 
 room-part : {R : ℕ} {s : Bytes} → ClientRules R s → length (recordingPart R s) - 12 ≡ R
 room-part {R} {s} w = omega (arith, length-recordingPart R s (omega (arith, w .sized)))
@@ -93,7 +78,7 @@ pub fits-part : {R n : ℕ} {s : Bytes} {b : Bool} → HasClient R s → recordi
     → Fits R (clientOf R s) n b
 fits-part {R} {n} {s} h f =
     record {
-      value = λ a e l. rw (recorded-part R s e) (rw (room-part (h .rules)) at (f .value a l));
+      value = λ a l. rw (recorded-part (h .rules)) (rw (room-part (h .rules)) at (f .value a l));
     }
 
 pub recordable-part : {R id : ℕ} {s p : Bytes} → Recordable R s id p → recording.Addable (recordingPart R s) id p
@@ -103,7 +88,7 @@ recordable-part {R} {id} {s} {p} a =
       fine = a .client .rules .recording;
       on = on-begun (recordingPart R s) (a .on);
       known = a .known;
-      fits = rw (room-part (a .client .rules), ← (recorded-part R s (a .on))) (a .fits);
+      fits = rw (room-part (a .client .rules), ← (recorded-part (a .client .rules))) (a .fits);
     }
 
 pub lent-recorded : {R id : ℕ} {s p v : Bytes} → Recordable R s id p
@@ -112,7 +97,7 @@ pub lent-recorded : {R id : ℕ} {s p v : Bytes} → Recordable R s id p
 unfolding recorded
 lent-recorded {R} {id} {s} {p} {v} a b =
     rw (back-recording R s v (omega (arith, a .client .rules .sized)) (b .size))
-    (becomes-recording (a .client) (rw (← (recorded-part R s (a .on))) at b))
+    (becomes-recording (a .client) (rw (← (recorded-part (a .client .rules))) at b))
 
 -- ---- the queue
 

@@ -3,7 +3,6 @@ use mathlib.Core.Path.{_≡_}
 use mathlib.Core.Bool.{Bool, true}
 use mathlib.Core.List.{[], _∷_, _++_}
 use Prim.Native.Nat.{ℕ, _+_, _-_, _/_, _≤_, _<_}
-use lib.Dec.{leb}
 use lib.ListN.{length}
 use lib.Seq.{sets}
 use Rattle.octets.specs.Octets.{Bytes}
@@ -85,10 +84,6 @@ abbrev pub Removing : Bytes → Bytes → Bytes → Type 0
 Removing p s s′ =
     (R : ℕ) → HasOpen R s → Becomes R s s′ (used (withPatterns (removePattern p (clientOf R s .patterns)) (clientOf R s)))
 
--- whether the client holds at most sixteen patterns with this one added
-abbrev pub PatternFits : Bytes → Bytes → Bool → Type 0
-PatternFits s p b = (R : ℕ) → b ≡ leb (length (addPattern p (clientOf R s .patterns))) 16
-
 -- the regions of patterns and of commands are emptied, and the rest of the slot is as it was
 pub record Stripping (R : ℕ) (s s′ : Bytes) : Type 0 where
   pub size : length s′ ≡ length s
@@ -107,8 +102,7 @@ pub record Taking (R : ℕ) (s out : Bytes) (n : ℕ) (s′ out′ : Bytes) : Ty
 
 -- whether a command with a payload of n bytes fits behind those recorded
 pub record Fits (R : ℕ) (c : ClientImage) (n : ℕ) (b : Bool) : Type 0 where
-  pub value : (a : Action) → isBegun (c .transaction) ≡ true → length (payload a) ≡ n
-      → b ≡ recordingFits R (commandsOf (c .transaction) ++ (a ∷ []))
+  pub value : (a : Action) → length (payload a) ≡ n → b ≡ recordingFits R (commandsOf (c .transaction) ++ (a ∷ []))
 
 -- an open client records, and the command with this ID and payload can be recorded
 pub record Recordable (R : ℕ) (s : Bytes) (id : ℕ) (p : Bytes) : Type 0 where

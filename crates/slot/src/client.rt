@@ -7,18 +7,7 @@ ghost use Rattle.server.specs.Events.{onClient};
 ghost use Rattle.slot.specs.Image.{notified};
 ghost use Rattle.slot.specs.Region.{SlotRules, clientOf, slotOf};
 ghost use Rattle.slot.specs.Contracts.{roomOf, HasOpen, IsOpen, IsAddable, Becomes};
-ghost use Rattle.slot.specs.Contracts.{PatternFits, Adding, Removing};
-
-// Whether the client may add the pattern: it holds it already, or has fewer than sixteen.
-pub fn pattern_fits(s: &[u8], pattern: &[u8]) -> bool
-    requires { ⌜ IsOpen (now s) ⌝ }
-    ensures { λ b. ⌜ PatternFits (now (s .entry)) (now (pattern .entry)) b ⌝ }
-{
-    if subscriptions::is_held(&s[4..4104], pattern) {
-        return true;
-    }
-    subscriptions::count(&s[4..4104]) < 16
-}
+ghost use Rattle.slot.specs.Contracts.{Adding, Removing};
 
 // Adds the pattern, where the client does not hold it yet.
 pub fn add_pattern(s: &mut [u8], pattern: &[u8])

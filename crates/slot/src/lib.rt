@@ -10,7 +10,6 @@ mod recordings;
 
 pub use client::add_pattern;
 pub use client::notify;
-pub use client::pattern_fits;
 pub use client::remove_pattern;
 pub use fine::is_fine;
 use protocol::Kind;
@@ -113,7 +112,7 @@ pub fn open(s: &mut [u8], r: usize, kind: Kind)
     queue::clear(&mut s[4116 + r..]);
 }
 
-// Gives the slot's client this kind.
+// Gives the slot's client this kind. Of a slot without a client nothing is promised.
 pub fn fix_kind(s: &mut [u8], kind: Kind)
     requires { ⌜ 2 ≤ length (now s) ⌝ }
     ensures { λ _. ⌜ Changing (withKind kind) (now (s .entry)) (now (s .exit)) ⌝ }

@@ -25,8 +25,21 @@ use Rattle.server.specs.Events.{onClient, eachSlot, slotAfterEvent, afte
 use Rattle.server.specs.Decision.{Call, opens, feeds, takes, closes, Decision, unaltered}
 use Rattle.server.specs.Feed.{Context, contextOf, decideReading, decideCut, decideFeed}
 use Rattle.server.specs.Calls.{kindOf, decideOpenAt, decideOpen, decideTakeFrom, decideTake, decideClose, decide}
-use Rattle.server.specs.Forms.{clientWith, slotWith, stateWith, QueueIn, Keeps}
+use Rattle.server.specs.Forms.{clientWith, slotWith, stateWith}
 use Rattle.server.proofs.Judged.{command-alike}
+
+-- the queues of a slot are of some kind
+abbrev pub QueueIn : {A : Queueing} → (A .Queue → Type 0) → SlotOf A → Type 0
+QueueIn P free = Unit {0}
+QueueIn P (used c) = P (c .queue)
+
+-- a map of queues keeps what the server asks of them, for those of some kind
+pub record Keeps (A B : Queueing) (form : A .Queue → B .Queue) (P : A .Queue → Type 0) : Type 0 where
+  pub empty : form (A .empty) ≡ B .empty
+  pub charge : (q : A .Queue) → B .charge (form q) ≡ A .charge q
+  pub first : (q : A .Queue) → P q → B .first (form q) ≡ A .first q
+  pub rest : (q : A .Queue) → P q → B .rest (form q) ≡ form (A .rest q)
+  pub appended : (q : A .Queue) (ms : List Bytes) → B .appended (form q) ms ≡ form (A .appended q ms)
 
 -- a test between what a function gives
 cond-with : {X Y : Type 0} (f : X → Y) (b : Bool) {x y : X} {u v : Y} → u ≡ f x → v ≡ f y → cond b u v ≡ f (cond b x y)

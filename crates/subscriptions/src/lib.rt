@@ -49,8 +49,8 @@ pub fn is_held(s: &[u8], pattern: &[u8]) -> bool
     let n = count(s);
     let mut i = 0;
     while i < n {
-        let p = cell_at(s, i);
-        if octets::equal(pattern, p) {
+        let cell = cell_at(s, i);
+        if octets::equal(pattern, cell) {
             return true;
         }
         i += 1;

@@ -10,7 +10,6 @@ pub use rows::id_at;
 pub use rows::payload_at;
 pub use rows::row_size;
 use rows::rows_fine;
-pub use turn::last_write;
 pub use turn::turn_finds;
 ghost use mathlib.Core.Path.{_≡_};
 ghost use mathlib.Core.List.{[]};
@@ -21,14 +20,7 @@ ghost use lib.ListN.{length};
 ghost use Rattle.octets.specs.Options.{isSome};
 ghost use Rattle.recording.specs.Region.{sized, stateFine, recorded};
 ghost use Rattle.recording.specs.Region.{recordingOf, recordingFine};
-ghost use Rattle.recording.specs.Contracts.{Becomes, headed, extended, Used, Fits, Addable};
-
-// Where the payload of a WRITE stands, if one was found: len bytes from index `at` of the region.
-pub struct Row {
-    pub found: bool,
-    pub at: usize,
-    pub len: usize,
-}
+ghost use Rattle.recording.specs.Contracts.{Becomes, headed, extended, Fits, Addable};
 
 // Whether a state is known and goes with n commands.
 fn is_state(state: usize, n: usize) -> bool
@@ -74,14 +66,6 @@ pub fn is_on(r: &[u8]) -> bool
     ensures { λ b. ⌜ b ≡ isSome (recordingOf (now (r .entry))) ⌝ }
 {
     octets::u32_at(r, 0) != 0
-}
-
-// The used bytes: what the commands charge, and the offset past the last row.
-pub fn used(r: &[u8]) -> usize
-    requires { ⌜ recordingFine (now r) ≡ true ⌝ }
-    ensures { λ n. ⌜ Used (now (r .entry)) n ⌝ }
-{
-    octets::u32_at(r, 4)
 }
 
 // The number of commands.

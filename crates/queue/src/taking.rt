@@ -48,7 +48,7 @@ fn copy_first(q: &[u8], out: &mut [u8]) -> usize
     n
 }
 
-// Removes the first message, which is n bytes long. An emptied queue starts at the room's front.
+// Removes the first message, which is n bytes long. Where the next one then stands is left open.
 fn drop_first(q: &mut [u8], n: usize)
     requires { ⌜ (AtRest 0 (now q)) × (n ≡ firstLength (queuedOf (now q))) ⌝ }
     ensures { λ _. ⌜ Removing (now (q .entry)) (now (q .exit)) ⌝ }

@@ -1,8 +1,8 @@
 // The recording region of a slot: the commands that a client has recorded since its BEGIN, in lent
 // bytes. State 4 (0 none, 1 recording), used bytes 4, number of commands 4, then the record room of
 // R bytes, in whose first used bytes each command has a row: ID 1, payload length 3, payload.
-// Offsets count from the start of the room. Internal layer: what a function requires is its
-// callers' to show.
+// Offsets count from the start of the room. A function that writes leaves open the bytes of the
+// room behind the rows. Internal layer: what a function requires is its callers' to show.
 mod rows;
 mod turn;
 

@@ -1,6 +1,5 @@
 -- The tally is that of a body exchanged for another, and as it was where the two are equal.
 use mathlib.Core.Path.{sym, _∙_}
-use Prim.Native.Nat.{_-_}
 use native.Mathlib.Omega.{arith}
 use lib.Seq.{length-take-le}
 use Rattle.octets.proofs.Nul.{firstNul-within}

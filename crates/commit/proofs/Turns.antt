@@ -68,7 +68,7 @@ module _ (k : Bytes) (xs : List Action) (s : Store) {stored b : Bytes} (f : stor
 
 -- ---- the value that a body gives
 
--- the body of a value gives that value
+-- a body tells whether there is a value, and which: an empty value is not none
 valueIn-body : (k : Bytes) (o : Option Bytes) → valueIn k (body k o) ≡ o
 unfolding valueIn body
 valueIn-body k none = rw (le-ltb (length k) 0 (omega arith))

@@ -1,4 +1,4 @@
--- What a match asked by itself gives: document 01, "Patterns", its last sentence, and the whole-key rule.
+-- What a match asked by itself gives: document 01, "Patterns", its last two sentences, and the whole-key rule.
 use Prim.Native.Nat.{ℕ, _+_, _*_, _≤_}
 use mathlib.Core.Path.{_≡_}
 use mathlib.Core.List.{[], _∷_}

@@ -31,11 +31,11 @@ module _ {st p : Bytes} {n old : ℕ} (w : Writing st p n old) where
       let d : Found st key (storeCharge (lower key (storeOf st))) old = record { offset = refl; size = w .row } in
       omega (arith, found-within (w .store-fine) d)
 
+  pub replacement : {new : ℕ} → new ≤ 65542 → Replacement st old new
+  replacement h = record { fine = w .store-fine; old-used = row-within; new-short = h }
+
   -- with a value
   module _ (l : n < length p) where
-    pub replacement : Replacement st old (7 + length p)
-    replacement = record { fine = w .store-fine; old-used = row-within; new-short = omega (arith, w .short) }
-
     charge-value : charge key (some (drop (n + 1) p)) ≡ 7 + length p
     unfolding charge
     charge-value = omega (arith, length-take-le n p (omega arith), length-drop (n + 1) p)

@@ -2,7 +2,7 @@
 use mathlib.Core.Path.{_≡_, refl, sym, ap, _∙_}
 use mathlib.Core.List.{List, [], _∷_, _++_}
 use mathlib.Core.Bool.{Bool, true, false, not}
-use Prim.Native.Nat.{ℕ, suc, _+_, _-_, _≤_, _<_}
+use Prim.Native.Nat.{ℕ, suc, _+_, _≤_, _<_}
 use native.Mathlib.Numerals.{add-one}
 use native.Mathlib.Omega.{arith}
 use lib.Dec.{ltb, eqb}
@@ -17,16 +17,15 @@ use Rattle.protocol.specs.Terms.{Action, hello, sub, unsub, read, ping, command
 use Rattle.server.specs.Store.{Store, lookup, storeCharge, storeFits}
 use Rattle.server.specs.Patterns.{Patterns, held, addPattern, removePattern}
 use Rattle.server.specs.Step.{storeAfter, patternsAfter, refuses, storeAfterAll, refusesAny}
-use Rattle.server.specs.Turn.{foundOr}
+use Rattle.server.specs.Turn.{valueAtTurn}
 use Rattle.server.specs.Invariant.{Ascending}
 use Rattle.server.proofs.Tests.{either, never}
-use Rattle.server.proofs.Steps.{storeAfterAll-append, ascending-storeAfterAll}
+use Rattle.server.proofs.Steps.{storeAfterAll-append, ascending-storeAfterAll, lookup-storeAfterAll}
 use Rattle.server.proofs.Subscriptions.{countOf, length-addPattern}
 use Rattle.recording.specs.Command.{actionOf, writeFrom, commandFine, rowSize, rowPayload, commandAt}
 use Rattle.recording.specs.Region.{rowsOf, recorded}
-use Rattle.recording.specs.Turn.{lastBody, valueIn, earlier}
+use Rattle.recording.specs.Turn.{earlier}
 use Rattle.recording.specs.Contracts.{RowAt}
-use Rattle.recording.proofs.Bodies.{value-at-turn}
 use Rattle.recording.proofs.Commands.{payload-actionOf, commandId-actionOf}
 use Rattle.recording.proofs.Packed.{rowFine-whole}
 use Rattle.recording.proofs.Walks.{Walk, row-here, walk-start, walk-row, walk-command, walk-next, walk-earlier}
@@ -39,7 +38,6 @@ use Rattle.subscriptions.proofs.Cells.{fine-rules, length-patternsOf}
 use Rattle.commit.specs.declared.Tally.{Tally}
 use Rattle.commit.specs.Tally.{TallyOf}
 use Rattle.commit.specs.Contracts.{storeBefore, Tried, Place, Turn, Taken, PatternTaken, SubRefused}
-use Rattle.commit.proofs.Turns.{valueIn-body}
 
 -- ---- a SUB
 
@@ -178,16 +176,11 @@ pub ascending-storeBefore : (st r : Bytes) (at : ℕ) → storeFine st ≡ true 
 unfolding storeBefore
 ascending-storeBefore st r at f = ascending-storeAfterAll (earlier r at) (storeOf st) (ascending-storeOf st f)
 
--- the body that the store has gives the key's value
-pub value-stored : (st k b : Bytes) → b ≡ body k (lookup k (storeOf st)) → valueIn k b ≡ lookup k (storeOf st)
-value-stored st k b e = ap (valueIn k) e ∙ valueIn-body k (lookup k (storeOf st))
-
--- the body that is found at a turn gives the key's value there
-pub value-storeBefore : (st r k : Bytes) (at : ℕ) (stored b : Bytes) → stored ≡ body k (lookup k (storeOf st))
-    → b ≡ foundOr (lastBody k (earlier r at)) stored → valueIn k b ≡ lookup k (storeBefore st r at)
+-- what the look-up finds for the key is the body that it has in the store there
+pub body-storeBefore : (st r k : Bytes) (at : ℕ) (b : Bytes) → b ≡ body k (valueAtTurn k (earlier r at) (storeOf st))
+    → b ≡ body k (lookup k (storeBefore st r at))
 unfolding storeBefore
-value-storeBefore st r k at stored b e f =
-    ap (valueIn k) f ∙ value-at-turn k (earlier r at) (storeOf st) stored (value-stored st k stored e)
+body-storeBefore st r k at b e = e ∙ ap (body k) (sym (lookup-storeAfterAll k (earlier r at) (storeOf st)))
 
 -- the store's own numbers are its tally
 pub tally-start : (st : Bytes) (used count : ℕ) → storeFine st ≡ true → used ≡ storeUsed st → count ≡ storeCount st

@@ -1,24 +1,28 @@
 -- A WRITE tried out: the tally that a body's exchange gives is that of the store after the WRITE.
 use mathlib.Core.Path.{_≡_, refl, sym, ap, _∙_}
-use mathlib.Core.List.{[], _∷_, _++_}
+use mathlib.Core.List.{List, [], _∷_, _++_, append-nil}
 use mathlib.Core.Bool.{not}
 use mathlib.Core.Option.{Option, some, none}
-use Prim.Native.Nat.{ℕ, _+_, _-_, _≤_, _<_}
+use Prim.Native.Nat.{ℕ, _+_, _≤_, _<_}
 use native.Mathlib.Numerals.{add-one}
 use native.Mathlib.Omega.{arith}
-use lib.Dec.{leb, ltb, eqb}
+use lib.Dec.{leb, ltb}
 use lib.ListN.{length, take, drop, length-append, length-drop}
 use lib.Seq.{drop-append-add, drop-cons, drop-length, length-take-le}
 use borrow.Author.Tests.{lt-ltb, le-ltb, ltb-true, ltb-false, leb-true, not-false}
 use Rattle.octets.specs.Octets.{Bytes, firstNul}
+use Rattle.octets.proofs.Nul.{firstNul-within}
+use Rattle.protocol.specs.Terms.{Action, payload, valueTail}
 use Rattle.server.specs.Store.{Store, lookup, storeAfterWrite, storeCharge, storeFits}
 use Rattle.server.specs.Patterns.{Patterns}
 use Rattle.server.specs.Step.{storeAfter, patternsAfter, refuses}
+use Rattle.server.specs.Turn.{foundOr, lastWrite, valueAtTurn}
 use Rattle.server.specs.Invariant.{Ascending}
 use Rattle.server.proofs.Tests.{either, and-left, and-right}
 use Rattle.server.proofs.Charges.{valueCharge, valueCount, storeAfterWrite-differs}
 use Rattle.recording.specs.Command.{valueBehind, writeFrom}
-use Rattle.recording.specs.Turn.{valueIn}
+use Rattle.recording.specs.Turn.{lastBody, valueIn}
+use Rattle.recording.proofs.Bodies.{payloadFor, lastBody-lastWrite}
 use Rattle.store.specs.Operation.{body}
 use Rattle.commit.specs.declared.Tally.{Tally}
 use Rattle.commit.specs.Tally.{bodyCharge, bodyCount, TallyOf, less, More, Removable, Exchangeable}
@@ -26,10 +30,46 @@ use Rattle.subscriptions.specs.Region.{patternsOf}
 use Rattle.commit.specs.Contracts.{WriteTaken}
 use Rattle.commit.proofs.Numbers.{bodyCharge-entry, bodyCount-entry, bodyCharge-none, bodyCount-none}
 
+-- ---- what the look-up gives
+
+-- The body that a turn finds, by what the last WRITE of the key left (o) and by what the store has for it (v): one that
+-- is no longer than the key gives no value, and one that is longer is key, NUL and value.
+module _ (k : Bytes) where
+  longer : (v : Bytes) → length k < length (k ++ 0 ∷ v)
+  longer v = rw length-append (omega arith)
+
+  found-none : (o : Option (Option Bytes)) (v : Option Bytes) → length (foundOr (payloadFor k o) (body k v)) ≤ length k
+      → [] ≡ body k (foundOr o v)
+  unfolding body payload valueTail
+  found-none none none h = refl
+  found-none none (some x) h = absurd (omega (arith, longer x))
+  found-none (some none) v h = refl
+  found-none (some (some x)) v h = absurd (omega (arith, longer x))
+
+  found-value : (o : Option (Option Bytes)) (v : Option Bytes) → length k < length (foundOr (payloadFor k o) (body k v))
+      → foundOr (payloadFor k o) (body k v) ≡ body k (foundOr o v)
+  unfolding body payload valueTail
+  found-value none v h = refl
+  found-value (some none) v h = let e = ap length (append-nil k) in absurd (omega arith)
+  found-value (some (some x)) v h = refl
+
+module _ (k : Bytes) (xs : List Action) (s : Store) {stored b : Bytes} (f : stored ≡ body k (lookup k s))
+    (e : b ≡ foundOr (lastBody k xs) stored) where
+  by-lastWrite : b ≡ foundOr (payloadFor k (lastWrite k xs)) (body k (lookup k s))
+  by-lastWrite = e ∙ rw (f, lastBody-lastWrite k xs)
+
+  pub turn-none : length b ≤ length k → [] ≡ body k (valueAtTurn k xs s)
+  unfolding valueAtTurn
+  turn-none h = found-none k (lastWrite k xs) (lookup k s) (rw by-lastWrite at h)
+
+  pub turn-value : length k < length b → b ≡ body k (valueAtTurn k xs s)
+  unfolding valueAtTurn
+  turn-value h = by-lastWrite ∙ found-value k (lastWrite k xs) (lookup k s) (rw by-lastWrite at h)
+
 -- ---- the value that a body gives
 
--- the store's body for a key gives the key's value
-pub valueIn-body : (k : Bytes) (o : Option Bytes) → valueIn k (body k o) ≡ o
+-- a body tells whether there is a value, and which: an empty value is not none
+valueIn-body : (k : Bytes) (o : Option Bytes) → valueIn k (body k o) ≡ o
 unfolding valueIn body
 valueIn-body k none = rw (le-ltb (length k) 0 (omega arith))
 valueIn-body k (some v) =
@@ -56,12 +96,6 @@ module _ (k b : Bytes) where
 
 -- ---- the payload of a WRITE
 
-pub firstNul-within : (p : Bytes) → firstNul p ≤ length p
-unfolding firstNul
-firstNul-within [] = omega arith
-firstNul-within (c ∷ p) =
-    either (eqb c 0) (λ t. rw t (omega arith)) (λ t. rw t (omega (arith, firstNul-within p)))
-
 -- a payload gives its key the value that stands behind it
 valueIn-payload : (p : Bytes) (n : ℕ) → n ≤ length p → valueIn (take n p) p ≡ valueBehind (drop n p)
 unfolding valueIn valueBehind
@@ -77,16 +111,24 @@ valueIn-payload p n l =
 -- ---- the tally of a WRITE
 
 -- t is the tally of the store s; a WRITE's payload p has a key of n bytes, for which b is the body that the store has
-module _ (S : ℕ) (s : Store) (t : Tally) (p b : Bytes) (n : ℕ) (a : Ascending s) (h : TallyOf S s t)
-    (en : n ≡ firstNul p) (f : valueIn (take n p) b ≡ lookup (take n p) s) where
+pub record AtTurn (S : ℕ) (s : Store) (t : Tally) (p b : Bytes) (n : ℕ) : Type 0 where
+  pub ascending : Ascending s
+  pub tally : TallyOf S s t
+  pub key : n ≡ firstNul p
+  pub found : b ≡ body (take n p) (lookup (take n p) s)
+
+module _ {S : ℕ} {s : Store} {t : Tally} {p b : Bytes} {n : ℕ} (w : AtTurn S s t p b n) where
   abbrev key : Bytes
   key = take n p
 
   abbrev value : Option Bytes
   value = valueBehind (drop n p)
 
+  value-found : valueIn key b ≡ lookup key s
+  value-found = ap (valueIn key) (w .found) ∙ valueIn-body key (lookup key s)
+
   key-within : n ≤ length p
-  key-within = omega (arith, firstNul-within p)
+  key-within = omega (arith, w .key, firstNul-within p)
 
   key-length : n ≡ length key
   key-length = sym (length-take-le n p key-within)
@@ -104,24 +146,24 @@ module _ (S : ℕ) (s : Store) (t : Tally) (p b : Bytes) (n : ℕ) (a : Ascendin
   removable : Removable t n (length b)
   unfolding valueCharge valueCount
   removable =
-      let d = storeAfterWrite-differs key none s a in
+      let d = storeAfterWrite-differs key none s (w .ascending) in
       let x = d .charge in
       let y = d .count in
       record {
-        charge = omega (arith, charge-body b _ f, h .used);
-        count = omega (arith, count-body b _ f, h .count);
+        charge = omega (arith, charge-body b _ value-found, w .tally .used);
+        count = omega (arith, count-body b _ value-found, w .tally .count);
       }
 
   pub exchangeable : length p ≤ 65535 → Exchangeable S t n (length b) (length p)
   unfolding storeFits
   exchangeable l =
-      let x = leb-true (storeCharge s) S (and-left _ _ (h .fits)) in
-      let y = leb-true (length s) 1024 (and-right (leb (storeCharge s) S) _ (h .fits)) in
+      let x = leb-true (storeCharge s) S (and-left _ _ (w .tally .fits)) in
+      let y = leb-true (length s) 1024 (and-right (leb (storeCharge s) S) _ (w .tally .fits)) in
       record {
         within = record {
-          passed = h .passed;
-          used = omega (arith, h .used);
-          count = omega (arith, h .count);
+          passed = w .tally .passed;
+          used = omega (arith, w .tally .used);
+          count = omega (arith, w .tally .count);
           short = l;
         };
         removable = removable;
@@ -130,18 +172,18 @@ module _ (S : ℕ) (s : Store) (t : Tally) (p b : Bytes) (n : ℕ) (a : Ascendin
   after-charge : less t n (length b) .used + bodyCharge n (length p) ≡ storeCharge (storeAfterWrite key value s)
   unfolding less
   after-charge =
-      let d = storeAfterWrite-differs key value s a .charge in
-      let x = charge-body b _ f in
+      let d = storeAfterWrite-differs key value s (w .ascending) .charge in
+      let x = charge-body b _ value-found in
       let y = charge-body p _ (valueIn-payload p n key-within) in
-      omega (arith, h .used, removable .charge)
+      omega (arith, w .tally .used, removable .charge)
 
   after-count : less t n (length b) .count + bodyCount n (length p) ≡ length (storeAfterWrite key value s)
   unfolding less
   after-count =
-      let d = storeAfterWrite-differs key value s a .count in
-      let x = count-body b _ f in
+      let d = storeAfterWrite-differs key value s (w .ascending) .count in
+      let x = count-body b _ value-found in
       let y = count-body p _ (valueIn-payload p n key-within) in
-      omega (arith, h .count, removable .count)
+      omega (arith, w .tally .count, removable .count)
 
   module _ (r : Tally) (m : More S (less t n (length b)) n (length p) r) where
     refused-fits : r .refused ≡ not (storeFits S (storeAfterWrite key value s))
@@ -150,7 +192,7 @@ module _ (S : ℕ) (s : Store) (t : Tally) (p b : Bytes) (n : ℕ) (a : Ascendin
 
     pub write-refused : (ps : Patterns) → r .refused ≡ refuses S (writeFrom p) s ps
     unfolding refuses writeFrom
-    write-refused ps = rw (← en) refused-fits
+    write-refused ps = rw (← w .key) refused-fits
 
     pub write-taken : WriteTaken S p s r
     unfolding storeAfter patternsAfter writeFrom
@@ -159,7 +201,7 @@ module _ (S : ℕ) (s : Store) (t : Tally) (p b : Bytes) (n : ℕ) (a : Ascendin
           value = λ q g.
               record {
                 refused = write-refused (patternsOf q);
-                tally = λ e. rw (← en)
+                tally = λ e. rw (← w .key)
                     (record {
                       passed = e;
                       used = m .used e ∙ after-charge;
@@ -170,3 +212,19 @@ module _ (S : ℕ) (s : Store) (t : Tally) (p b : Bytes) (n : ℕ) (a : Ascendin
                 patterns-fine = g;
               };
         }
+
+  -- a WRITE of the body that the key has leaves the tally as it is
+  pub same-taken : b ≡ p → WriteTaken S p s t
+  unfolding less storeFits
+  same-taken e =
+      let l = ap length e in
+      let u : less t n (length b) .used + bodyCharge n (length p) ≡ storeCharge s =
+      rw (← e) (omega (arith, w .tally .used, removable .charge)) in
+      let v : less t n (length b) .count + bodyCount n (length p) ≡ length s =
+      rw (← e) (omega (arith, w .tally .count, removable .count)) in
+      write-taken t
+      (record {
+        refused = rw (u, v, w .tally .fits) (w .tally .passed);
+        used = λ q. w .tally .used ∙ sym u;
+        count = λ q. w .tally .count ∙ sym v;
+      })

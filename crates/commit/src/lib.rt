@@ -11,12 +11,13 @@ ghost use mathlib.Core.Path.{_≡_};
 ghost use mathlib.Core.Bool.{true};
 ghost use Prim.Native.Nat.{_+_};
 ghost use lib.ListN.{drop};
-ghost use Rattle.server.specs.Store.{lookup};
+ghost use Rattle.server.specs.Turn.{valueAtTurn};
 ghost use Rattle.server.specs.Step.{refusesAny};
 ghost use Rattle.recording.specs.Command.{commandAt};
 ghost use Rattle.recording.specs.Region.{rowsOf, recorded};
-ghost use Rattle.recording.specs.Turn.{valueIn};
+ghost use Rattle.recording.specs.Turn.{earlier};
 ghost use Rattle.store.specs.Region.{roomOf, storeOf};
+ghost use Rattle.store.specs.Operation.{body};
 ghost use Rattle.subscriptions.specs.Region.{patternsOf, subscriptionsFine};
 ghost use Rattle.commit.specs.Contracts.{storeBefore, Tried, Place, Writing};
 ghost use Rattle.commit.specs.Contracts.{WriteTurn, PatternTurn, Turn};
@@ -31,8 +32,11 @@ struct Tally {
     count: usize,
 }
 
-// The body that the key has at the turn of the command at the offset, a part of the recording or of
-// the store. The store's index shortens the search for the key.
+// The commit's look-up: the body that the key has at the turn of the command at the offset, a part
+// of the recording or of the store. It is key, NUL and value, as the last WRITE of the key earlier
+// in the recording left them, or else as the store has them. It is empty where that WRITE left no
+// value or the store has none; the body of an empty value is not. The store's index shortens the
+// search for the key.
 fn body_at_turn<'a>(
     store: &'a [u8],
     index: &[usize],
@@ -41,15 +45,19 @@ fn body_at_turn<'a>(
     key: &[u8],
 ) -> &'a [u8]
     requires { ⌜ Place (now store) (now index) (now recording) at ⌝ }
-    ensures { λ b. ⌜ valueIn (now (key .entry)) (now b) ≡ lookup (now (key .entry))
-        (storeBefore (now (store .entry)) (now (recording .entry)) at) ⌝ }
+    ensures { λ b. ⌜ now b ≡ body (now (key .entry)) (valueAtTurn (now (key .entry))
+        (earlier (now (recording .entry)) at) (storeOf (now (store .entry)))) ⌝ }
 {
     let stored = store::look_up(store, index, key);
-    recording::turn_finds(recording, at, stored, key)
+    let body = recording::turn_finds(recording, at, stored, key);
+    if body.len() <= key.len() {
+        return &body[..0];
+    }
+    body
 }
 
-// The tally after the WRITE of a payload at the offset. It is refused if the store would break a
-// limit.
+// The tally after the WRITE of a payload at the offset. A WRITE of the body that the key has
+// changes nothing; any other is refused if the store would break a limit.
 fn write_turn<'a>(
     store: &'a [u8],
     index: &[usize],
@@ -64,6 +72,9 @@ fn write_turn<'a>(
 {
     let key = octets::first_nul(payload);
     let body = body_at_turn(store, index, recording, at, &payload[..key]);
+    if octets::equal(body, payload) {
+        return t;
+    }
     exchanged(store.len() - 8, t, key, body.len(), payload.len())
 }
 

@@ -15,7 +15,8 @@ use Rattle.pattern.specs.Tokens.{tokens}
 use Rattle.pattern.specs.Syntax.{starFits, fits, valid}
 use Rattle.pattern.specs.Parts.{parts}
 use Rattle.pattern.specs.Tree.{Seq, Level, outside, inside, above, onSeq, grow, tree, sequence, treeOf}
-use Rattle.pattern.specs.Answer.{outcome, stepsOf, tooLong, answer, accepted}
+use Rattle.pattern.specs.declared.Match.{Match}
+use Rattle.pattern.specs.Answer.{outcome, stepsOf, tooLong, answer, Matched, accepted}
 use Rattle.pattern.specs.Checking.{tokensAt}
 use Rattle.pattern.proofs.Answers.{answer-invalid, answer-long, answer-short, accepted-long}
 use Rattle.pattern.proofs.Bound.{steps-sequence}
@@ -38,6 +39,10 @@ answer-steps p k =
     (λ l. rw (answer-long p k v l) (omega arith))
     (λ l. rw (answer-short p k v l) (outcome-steps p k)))
     (λ v. rw (answer-invalid p k v) (omega arith))
+
+-- So what a match gives keeps the bound.
+pub matched : (p k : Bytes) (r : Match) → r ≡ answer p k → Matched p k r
+matched p k r e = record { value = e; bounded = rw e (answer-steps p k) }
 
 -- Of a valid pattern `accepted` is the yes or no of a match.
 pub accepted-valid : (p k : Bytes) → valid p ≡ true → accepted p k ≡ answer p k .matched

@@ -1,5 +1,6 @@
--- What a match asked by itself gives: document 01, "Patterns", its last sentence, and the whole-key rule.
-use Prim.Native.Nat.{ℕ}
+-- What a match asked by itself gives: document 01, "Patterns", its last two sentences, and the whole-key rule.
+use Prim.Native.Nat.{ℕ, _+_, _*_, _≤_}
+use mathlib.Core.Path.{_≡_}
 use mathlib.Core.List.{[], _∷_}
 use mathlib.Core.Bool.{Bool, true, false, cond, _||_}
 use lib.Dec.{ltb}
@@ -42,6 +43,11 @@ answer p k =
     (refusal 102)
     (record { answer = 0; matched = whole (outcome p k); steps = stepsOf (outcome p k) }))
     (refusal 101)
+
+-- What a match gives is the answer, and "For P pattern bytes and K key bytes the steps never pass P × (K + 1)."
+pub record Matched (p k : Bytes) (r : Match) : Type 0 where
+  pub value : r ≡ answer p k
+  pub bounded : r .steps ≤ length p * (length k + 1)
 
 -- The yes or no alone, with no regard to validity: an invalid pattern counts as its tree.
 unfoldable pub accepted : Bytes → Bytes → Bool

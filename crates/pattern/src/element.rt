@@ -22,7 +22,7 @@ pub struct Taken {
 }
 
 // Takes from k on everything up to and including the next c.
-pub fn take_upto(key: &[u8], k: usize, c: u8) -> Taken
+fn take_upto(key: &[u8], k: usize, c: u8) -> Taken
     requires { ⌜ k ≤ length (now key) ⌝ }
     ensures { λ r. ⌜ Took (Matching.upto c) (now (key .entry)) k r ⌝ }
 {
@@ -45,7 +45,7 @@ pub fn take_upto(key: &[u8], k: usize, c: u8) -> Taken
 }
 
 // Takes the byte at k, where it is c.
-pub fn take_byte(key: &[u8], k: usize, c: u8) -> Taken
+fn take_byte(key: &[u8], k: usize, c: u8) -> Taken
     requires { ⌜ k ≤ length (now key) ⌝ }
     ensures { λ r. ⌜ Took (Matching.simpleM (Simples.Byte c)) (now (key .entry)) k r ⌝ }
 {
@@ -66,7 +66,7 @@ pub fn take_byte(key: &[u8], k: usize, c: u8) -> Taken
 }
 
 // Takes the byte at k.
-pub fn take_any(key: &[u8], k: usize) -> Taken
+fn take_any(key: &[u8], k: usize) -> Taken
     requires { ⌜ k ≤ length (now key) ⌝ }
     ensures { λ r. ⌜ Took (Matching.simpleM Simples.Any) (now (key .entry)) k r ⌝ }
 {

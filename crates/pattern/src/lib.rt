@@ -18,7 +18,7 @@ ghost use mathlib.Core.Path.{_≡_};
 ghost use mathlib.Core.Bool.{false};
 ghost use Rattle.pattern.specs.Syntax.{valid};
 ghost use Rattle.pattern.specs.Answer;
-ghost use Rattle.pattern.specs.Answer.{answer, accepted, tooLong};
+ghost use Rattle.pattern.specs.Answer.{Matched, accepted, tooLong};
 ghost use Rattle.pattern.specs.Walking.{Ran};
 
 // What a match asked by itself gives: the answer (0, 101 or 102), yes or no, and the steps.
@@ -47,9 +47,10 @@ pub fn is_valid(pattern: &[u8]) -> bool
 
 // Matches the pattern against the key. Answer 101: the pattern is invalid. Answer 102: it is valid,
 // and longer than 255 bytes or the key is longer than 65,535. Both come with no match and 0 steps.
-// Otherwise the answer is 0.
+// Otherwise the answer is 0. The steps are never more than the pattern's bytes times one more than
+// the key's.
 pub fn matches(pattern: &[u8], key: &[u8]) -> Match
-    ensures { λ r. ⌜ r ≡ answer (now (pattern .entry)) (now (key .entry)) ⌝ }
+    ensures { λ r. ⌜ Matched (now (pattern .entry)) (now (key .entry)) r ⌝ }
 {
     if !is_valid(pattern) {
         return refusal(101);

@@ -16,7 +16,7 @@ pub enum Found {
 }
 
 // The part of a `*` before the token t, which starts at `at`; the next one starts at `next`.
-pub fn star_part(t: Token, at: usize, next: usize) -> Found
+fn star_part(t: Token, at: usize, next: usize) -> Found
     ensures { λ r. ⌜ r ≡ starOf t at next ⌝ }
 {
     match t {
@@ -31,7 +31,7 @@ pub fn star_part(t: Token, at: usize, next: usize) -> Found
 }
 
 // The part of a `*` before what starts at `at`.
-pub fn star_at(pattern: &[u8], at: usize) -> Found
+fn star_at(pattern: &[u8], at: usize) -> Found
     requires { ⌜ at ≤ length (now pattern) ⌝ }
     ensures { λ r. ⌜ StarAt (now (pattern .entry)) at r ⌝ }
 {

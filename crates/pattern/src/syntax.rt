@@ -9,7 +9,7 @@ ghost use Rattle.pattern.specs.Checking.{tokensAt, stepOf, StepAt, Check
 
 // What a token is to the check: it goes on at a place, a group opens or closes before it, or the
 // pattern is invalid.
-pub enum Step {
+enum Step {
     On(usize),
     Enter(usize),
     Leave(usize),
@@ -23,7 +23,7 @@ pub enum Checked {
 }
 
 // Whether the token t may stand after a `*`.
-pub fn may_follow_star(t: Token) -> bool
+fn may_follow_star(t: Token) -> bool
     ensures { λ r. ⌜ r ≡ mayFollowStar t ⌝ }
 {
     match t {
@@ -38,7 +38,7 @@ pub fn may_follow_star(t: Token) -> bool
 }
 
 // Whether a `*` may stand before what starts at `at`.
-pub fn star_fits(pattern: &[u8], at: usize) -> bool
+fn star_fits(pattern: &[u8], at: usize) -> bool
     ensures { λ r. ⌜ r ≡ starFits (tokensAt (now (pattern .entry)) at) ⌝ }
 {
     if at < pattern.len() {
@@ -51,7 +51,7 @@ pub fn star_fits(pattern: &[u8], at: usize) -> bool
 
 // What the token t is to the check where `left` more groups may open, the next token starts at
 // `next`, and `star` says whether a `*` may stand before that one.
-pub fn step_of(t: Token, left: usize, star: bool, next: usize) -> Step
+fn step_of(t: Token, left: usize, star: bool, next: usize) -> Step
     ensures { λ r. ⌜ r ≡ stepOf t left star next ⌝ }
 {
     match t {
@@ -84,7 +84,7 @@ pub fn step_of(t: Token, left: usize, star: bool, next: usize) -> Step
 }
 
 // What stands at `at` to the check.
-pub fn step_at(pattern: &[u8], at: usize, left: usize) -> Step
+fn step_at(pattern: &[u8], at: usize, left: usize) -> Step
     requires { ⌜ at < length (now pattern) ⌝ }
     ensures { λ r. ⌜ StepAt (now (pattern .entry)) at left r ⌝ }
 {

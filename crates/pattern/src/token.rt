@@ -23,7 +23,7 @@ pub struct Lexeme {
 }
 
 // The token of a byte that no `\` stands before. A `\` counts as one that nothing follows.
-pub fn single(c: u8) -> Token
+fn single(c: u8) -> Token
     ensures { λ r. ⌜ r ≡ Tokens.single c ⌝ }
 {
     match c {

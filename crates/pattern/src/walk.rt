@@ -19,14 +19,14 @@ pub struct Walk {
 }
 
 // What follows a branch: another one, or what stands after the group.
-pub enum Turn {
+enum Turn {
     Another(usize),
     Over(usize),
 }
 
 // Goes from `at` to the end of the branch that `at` is in, past the `|` or `)` there. `depth`
 // groups are open inside that branch.
-pub fn next_branch(pattern: &[u8], at: usize) -> Turn
+fn next_branch(pattern: &[u8], at: usize) -> Turn
     requires { ⌜ at ≤ length (now pattern) ⌝ }
     ensures { λ r. ⌜ NextBranchAt (now (pattern .entry)) at r ⌝ }
 {
@@ -59,7 +59,7 @@ pub fn next_branch(pattern: &[u8], at: usize) -> Turn
 }
 
 // The place past the group that `at` is in.
-pub fn past_group(pattern: &[u8], at: usize) -> usize
+fn past_group(pattern: &[u8], at: usize) -> usize
     requires { ⌜ at ≤ length (now pattern) ⌝ }
     ensures { λ r. ⌜ PastGroupAt (now (pattern .entry)) at r ⌝ }
 {
@@ -129,7 +129,7 @@ pub fn walk_sequence(pattern: &[u8], at: usize, key: &[u8], from: usize) -> Walk
 
 // Walks over a group's branches from the one that starts at `at`, each along the key from `from`
 // on, up to the first that matches, and goes past the group.
-pub fn walk_branches(pattern: &[u8], at: usize, key: &[u8], from: usize) -> Walk
+fn walk_branches(pattern: &[u8], at: usize, key: &[u8], from: usize) -> Walk
     requires { ⌜ Short (now pattern) (now key) at from ⌝ }
     ensures { λ r. ⌜ WalkedOverAt (now (pattern .entry)) (now (key .entry)) at from r ⌝ }
 {

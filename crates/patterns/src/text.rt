@@ -12,7 +12,7 @@ pub fn number(n: u64) {
 }
 
 // Writes n spaces, and none where n is over 32.
-pub fn spaces(n: usize) {
+fn spaces(n: usize) {
     let room = [b' '; 32];
     if n <= 32 {
         put(&room[..n]);
@@ -20,7 +20,7 @@ pub fn spaces(n: usize) {
 }
 
 // Writes spaces up to a width from what is `used` of it.
-pub fn fill(used: usize, width: usize) {
+fn fill(used: usize, width: usize) {
     if used < width {
         spaces(width - used);
     }

@@ -5,6 +5,10 @@
 // Between steps a region is at rest, with nothing pending: then `is_fine` holds, and `take` serves.
 // During a step `owe` is called for each message. The step ends with `settle`, or with `shut_with`
 // where the client is shut, as it is when `is_overflown`. Either leads back to rest.
+//
+// A function that writes promises the region's length, its rule and its meaning. Where the messages
+// stand in the room, and what its other bytes hold, is left open. Internal layer: what a function
+// requires is its callers' to show.
 mod owing;
 mod region;
 mod taking;

@@ -45,7 +45,7 @@ fn has_room(q: &[u8], n: usize) -> bool
     true
 }
 
-// Moves what is queued and pending to the front of the room.
+// Moves what is queued and pending to the front of the room. What stands behind it is left open.
 fn gather(q: &mut [u8])
     requires { ⌜ InStep 0 (now q) ⌝ }
     ensures { λ _. ⌜ Gathering (now (q .entry)) (now (q .exit)) ⌝ }

@@ -48,7 +48,7 @@ fn copy_first(q: &[u8], out: &mut [u8]) -> usize
     n
 }
 
-// Removes the first message, which is n bytes long. An emptied queue starts at the room's front.
+// Removes the first message, which is n bytes long. Where the next one then stands is left open.
 fn drop_first(q: &mut [u8], n: usize)
     requires { ⌜ (AtRest 0 (now q)) × (n ≡ firstLength (queuedOf (now q))) ⌝ }
     ensures { λ _. ⌜ Removing (now (q .entry)) (now (q .exit)) ⌝ }
@@ -63,7 +63,8 @@ fn drop_first(q: &mut [u8], n: usize)
 }
 
 // Takes the first message: writes it at the front of out, which has room for it, removes it from
-// the queue and gives its length. The rest of out is as it was. An empty queue gives 0 and stays so.
+// the queue and gives its length. The rest of out is as it was. An empty queue gives 0 and stays
+// so.
 pub fn take(q: &mut [u8], out: &mut [u8]) -> usize
     requires { ⌜ (AtRest 0 (now q)) × (firstLength (queuedOf (now q)) ≤ length (now out)) ⌝ }
     ensures { λ r. ⌜ Taking (now (q .entry)) (now (out .entry)) r

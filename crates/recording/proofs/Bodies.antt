@@ -1,33 +1,24 @@
--- Bodies: whether a payload is a WRITE of a key, and the value that a body stands for at a turn.
+-- Whether a payload is a WRITE of a key, and the payload of the last WRITE in the server's terms.
 use mathlib.Core.Path.{_≡_, refl, sym, ap, _∙_}
-use mathlib.Core.List.{List, [], _∷_, _++_, append-nil}
+use mathlib.Core.List.{List, [], _∷_}
 use mathlib.Core.Bool.{true, false, true≢false}
 use mathlib.Core.Option.{Option, some, none}
-use Prim.Native.Nat.{ℕ, _≤_, _<_}
-use native.Mathlib.Nat.{le-refl}
+use Prim.Native.Nat.{ℕ, _<_}
 use native.Mathlib.Omega.{arith}
 use lib.Dec.{eqb}
-use lib.ListN.{length, take, length-append}
-use lib.Seq.{drop-append-add, length-take-le}
-use borrow.Author.Tests.{lt-ltb, le-ltb, eqb-true, eqb-false}
+use lib.ListN.{length, take}
+use lib.Seq.{length-take-le}
+use borrow.Author.Tests.{eqb-true, eqb-false}
 use Rattle.octets.specs.Octets.{Bytes, firstNul}
 use Rattle.octets.specs.Order.{same}
+use Rattle.octets.proofs.Nul.{firstNul-within}
 use Rattle.octets.proofs.Orders.{same-eq, eq-same, ne-same}
-use Rattle.protocol.specs.Terms.{Action, hello, sub, unsub, read, write, ping, payload, valueTail}
-use Rattle.server.specs.Store.{Store, lookup}
-use Rattle.server.specs.Step.{storeAfterAll}
-use Rattle.server.specs.Turn.{orElse, foundOr, writeOf, lastWrite, valueAtTurn}
-use Rattle.server.proofs.Steps.{lookup-storeAfterAll}
-use Rattle.recording.specs.Turn.{bodyFor, lastBody, valueIn, earlier}
+use Rattle.protocol.specs.Terms.{Action, hello, sub, unsub, read, write, ping, payload}
+use Rattle.server.specs.Turn.{orElse, writeOf, lastWrite}
+use Rattle.recording.specs.Turn.{bodyFor, lastBody}
 use Rattle.recording.proofs.Tests.{either}
 
 -- ---- whether a payload is a WRITE of a key
-
-firstNul-within : (p : Bytes) → firstNul p ≤ length p
-unfolding firstNul
-firstNul-within [] = omega arith
-firstNul-within (c ∷ p) =
-    either (eqb c 0) (λ t. rw t (omega arith)) (λ t. rw t (omega (arith, firstNul-within p)))
 
 module _ (k p : Bytes) where
   key-length : k ≡ take (firstNul p) p → length k ≡ firstNul p
@@ -49,47 +40,30 @@ module _ (k p : Bytes) where
       (e ∙ ap (λ (n : ℕ). take n p) (sym (eqb-true (firstNul p) (length k) t)))))
       (λ t. rw t (ne-same k (take (firstNul p) p) (λ q. eqb-false (firstNul p) (length k) t (sym (key-length q)))))
 
--- ---- the value that a body stands for
+-- ---- the payload of the last WRITE
 
-foundOr-orElse : {X : Type 0} (a b : Option X) (x : X) → foundOr (orElse a b) x ≡ foundOr a (foundOr b x)
-foundOr-orElse none b x = refl
-foundOr-orElse (some y) b x = refl
+-- the payload of a WRITE of the key that left this, a value or none
+abbrev pub payloadFor : Bytes → Option (Option Bytes) → Option Bytes
+payloadFor k none = none
+payloadFor k (some v) = some (payload (write k v))
 
-valueIn-payload : (k : Bytes) (v : Option Bytes) → valueIn k (payload (write k v)) ≡ v
-unfolding valueIn payload valueTail
-valueIn-payload k none =
-    let l : length k ≤ length k = le-refl (length k) in
-    rw (append-nil k, le-ltb (length k) (length k) l)
-valueIn-payload k (some v) =
-    let l : length k < length (k ++ 0 ∷ v) = rw length-append (omega arith) in
-    rw (lt-ltb (length k) (length (k ++ 0 ∷ v)) l, drop-append-add k (0 ∷ v) 1)
+payloadFor-orElse : (k : Bytes) (a b : Option (Option Bytes))
+    → payloadFor k (orElse a b) ≡ orElse (payloadFor k a) (payloadFor k b)
+payloadFor-orElse k none b = refl
+payloadFor-orElse k (some v) b = refl
 
-value-bodyFor : (k : Bytes) (a : Action) (b : Bytes)
-    → valueIn k (foundOr (bodyFor k a) b) ≡ foundOr (writeOf k a) (valueIn k b)
+bodyFor-writeOf : (k : Bytes) (a : Action) → bodyFor k a ≡ payloadFor k (writeOf k a)
 unfolding bodyFor writeOf
-value-bodyFor k (hello t) b = refl
-value-bodyFor k (sub p) b = refl
-value-bodyFor k (unsub p) b = refl
-value-bodyFor k (read x) b = refl
-value-bodyFor k (write x v) b =
-    either (same k x)
-    (λ t. rw (t, same-eq k x t) (valueIn-payload x v))
-    (λ t. rw t)
-value-bodyFor k (ping i) b = refl
+bodyFor-writeOf k (hello t) = refl
+bodyFor-writeOf k (sub p) = refl
+bodyFor-writeOf k (unsub p) = refl
+bodyFor-writeOf k (read x) = refl
+bodyFor-writeOf k (write x v) = either (same k x) (λ t. rw (t, same-eq k x t)) (λ t. rw t)
+bodyFor-writeOf k (ping i) = refl
 
-value-lastBody : (k : Bytes) (xs : List Action) (b : Bytes)
-    → valueIn k (foundOr (lastBody k xs) b) ≡ foundOr (lastWrite k xs) (valueIn k b)
+-- the last WRITE's payload is that of a WRITE of the key which left what the server says it left
+pub lastBody-lastWrite : (k : Bytes) (xs : List Action) → lastBody k xs ≡ payloadFor k (lastWrite k xs)
 unfolding lastBody lastWrite
-value-lastBody k [] b = refl
-value-lastBody k (a ∷ xs) b =
-    ap (valueIn k) (foundOr-orElse (lastBody k xs) (bodyFor k a) b)
-    ∙ value-lastBody k xs (foundOr (bodyFor k a) b)
-    ∙ ap (foundOr (lastWrite k xs)) (value-bodyFor k a b)
-    ∙ sym (foundOr-orElse (lastWrite k xs) (writeOf k a) (valueIn k b))
-
--- At its turn a command finds the value that the key has in the store after the earlier commands, where b is the body
--- that the store has for it.
-pub value-at-turn : (k : Bytes) (earlier : List Action) (s : Store) (b : Bytes) → valueIn k b ≡ lookup k s
-    → valueIn k (foundOr (lastBody k earlier) b) ≡ lookup k (storeAfterAll earlier s)
-unfolding valueAtTurn
-value-at-turn k xs s b e = value-lastBody k xs b ∙ ap (foundOr (lastWrite k xs)) e ∙ sym (lookup-storeAfterAll k xs s)
+lastBody-lastWrite k [] = refl
+lastBody-lastWrite k (a ∷ xs) =
+    rw (lastBody-lastWrite k xs, bodyFor-writeOf k a) (sym (payloadFor-orElse k (lastWrite k xs) (writeOf k a)))

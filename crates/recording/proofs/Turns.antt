@@ -15,7 +15,7 @@ use Rattle.octets.specs.Order.{same}
 use Rattle.octets.specs.Part.{part}
 use Rattle.octets.specs.Number.{numberAt}
 use Rattle.server.specs.Turn.{orElse, foundOr}
-use Rattle.recording.specs.declared.Row.{Row}
+use Rattle.recording.specs.declared.turn.Row.{Row}
 use Rattle.recording.specs.Command.{writeFrom, actionOf, rowSize, commandAt, rowsFine}
 use Rattle.recording.specs.Region.{countOf, rowsOf}
 use Rattle.recording.specs.Turn.{bodyFor, lastBody, commandsBefore, earlier, bodyOf}

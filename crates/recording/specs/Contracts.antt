@@ -8,9 +8,9 @@ use lib.Seq.{sets}
 use Rattle.octets.specs.Octets.{Bytes}
 use Rattle.octets.specs.Number.{bigEndian}
 use Rattle.protocol.specs.Terms.{Action, payload}
-use Rattle.server.specs.State.{begun, Transaction, recordingCharge, recordingFits}
+use Rattle.server.specs.State.{begun, Transaction, recordingFits}
 use Rattle.server.specs.Turn.{orElse}
-use Rattle.recording.specs.declared.Row.{Row}
+use Rattle.recording.specs.declared.turn.Row.{Row}
 use Rattle.recording.specs.Command.{actionOf, commandFine, rowSize, commandAt, rowFine}
 use Rattle.recording.specs.Region.{usedOf, rowsOf, roomOf, recorded, transactionOf, recordingFine}
 use Rattle.recording.specs.Turn.{bodyFor, lastBody, earlier, bodyOf}
@@ -28,11 +28,6 @@ extended r id p = begun (recorded r ++ (actionOf id p ∷ []))
 -- the region with the three numbers in front written
 unfoldable pub headed : Bytes → ℕ → ℕ → ℕ → Bytes
 headed r state used n = sets (sets (sets r 0 (bigEndian 4 state)) 4 (bigEndian 4 used)) 8 (bigEndian 4 n)
-
--- the used bytes: the end of the rows, and what the commands charge
-pub record Used (r : Bytes) (n : ℕ) : Type 0 where
-  pub end : n ≡ usedOf r
-  pub charge : n ≡ recordingCharge (recorded r)
 
 -- whether a command with a payload of n bytes fits behind those recorded
 pub record Fits (r : Bytes) (n : ℕ) (b : Bool) : Type 0 where

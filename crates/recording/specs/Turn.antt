@@ -13,7 +13,7 @@ use Rattle.octets.specs.Order.{same}
 use Rattle.octets.specs.Part.{part}
 use Rattle.protocol.specs.Terms.{Action, hello, sub, unsub, read, write, ping, payload}
 use Rattle.server.specs.Turn.{orElse, foundOr}
-use Rattle.recording.specs.declared.Row.{Row}
+use Rattle.recording.specs.declared.turn.Row.{Row}
 use Rattle.recording.specs.Command.{commandAt, rowSize}
 use Rattle.recording.specs.Region.{countOf, rowsOf}
 

@@ -1,8 +1,8 @@
 // The recording region of a slot: the commands that a client has recorded since its BEGIN, in lent
 // bytes. State 4 (0 none, 1 recording), used bytes 4, number of commands 4, then the record room of
 // R bytes, in whose first used bytes each command has a row: ID 1, payload length 3, payload.
-// Offsets count from the start of the room. Internal layer: what a function requires is its
-// callers' to show.
+// Offsets count from the start of the room. A function that writes leaves open the bytes of the
+// room behind the rows. Internal layer: what a function requires is its callers' to show.
 mod rows;
 mod turn;
 
@@ -10,7 +10,6 @@ pub use rows::id_at;
 pub use rows::payload_at;
 pub use rows::row_size;
 use rows::rows_fine;
-pub use turn::last_write;
 pub use turn::turn_finds;
 ghost use mathlib.Core.Path.{_≡_};
 ghost use mathlib.Core.List.{[]};
@@ -19,15 +18,8 @@ ghost use Prim.Native.Nat.{_+_, _≤_};
 ghost use lib.ListN.{length};
 ghost use Rattle.recording.specs.Region.{sized, stateFine, recorded};
 ghost use Rattle.recording.specs.Region.{transactionOf, recordingFine};
-ghost use Rattle.recording.specs.Contracts.{Becomes, headed, extended, Used, Fits, Addable};
+ghost use Rattle.recording.specs.Contracts.{Becomes, headed, extended, Fits, Addable};
 ghost use Rattle.server.specs.State.{off, begun, isBegun};
-
-// Where the payload of a WRITE stands, if one was found: len bytes from index `at` of the region.
-pub struct Row {
-    pub found: bool,
-    pub at: usize,
-    pub len: usize,
-}
 
 // Whether a state is known and goes with n commands.
 fn is_state(state: usize, n: usize) -> bool
@@ -73,14 +65,6 @@ pub fn is_on(r: &[u8]) -> bool
     ensures { λ b. ⌜ b ≡ isBegun (transactionOf (now (r .entry))) ⌝ }
 {
     octets::u32_at(r, 0) != 0
-}
-
-// The used bytes: what the commands charge, and the offset past the last row.
-pub fn used(r: &[u8]) -> usize
-    requires { ⌜ recordingFine (now r) ≡ true ⌝ }
-    ensures { λ n. ⌜ Used (now (r .entry)) n ⌝ }
-{
-    octets::u32_at(r, 4)
 }
 
 // The number of commands.

@@ -1,4 +1,4 @@
-// The commit's look-up: what a command finds for a key at its turn.
+// What the commands before a turn leave for a key.
 ghost use mathlib.Core.Path.{_≡_};
 ghost use mathlib.Core.Bool.{true};
 ghost use Prim.Native.Nat.{_+_};
@@ -6,7 +6,13 @@ ghost use Rattle.octets.specs.Order.{same};
 ghost use Rattle.recording.specs.Command.{keyIn};
 ghost use Rattle.recording.specs.Turn.{bodyAtTurn};
 ghost use Rattle.recording.specs.Contracts.{Until, Candidate, Latest, LastWrite};
-use crate::Row;
+
+// Where the payload of a WRITE stands, if one was found: len bytes from index `at` of the region.
+struct Row {
+    found: bool,
+    at: usize,
+    len: usize,
+}
 
 // Whether the payload of a WRITE is one of the key: the key, and then its end or a NUL.
 fn is_write_of(payload: &[u8], key: &[u8]) -> bool
@@ -43,8 +49,9 @@ fn latest(r: &[u8], at: usize, n: usize, key: &[u8], w: Row) -> Row
 
 // Where the payload of the last WRITE of the key stands, among the commands whose rows begin before
 // the offset `until`. `found` is false where there is none: the empty payload of a WRITE that
-// deletes the empty key is found.
-pub fn last_write(r: &[u8], until: usize, key: &[u8]) -> Row
+// deletes the empty key is found. The contract fixes `found` and the bytes that are named; which
+// place in the region names them is left open, and so is the place where none is found.
+fn last_write(r: &[u8], until: usize, key: &[u8]) -> Row
     requires { ⌜ Until (now r) until ⌝ }
     ensures { λ w. ⌜ LastWrite (now (r .entry)) until (now (key .entry)) w ⌝ }
 {
@@ -62,9 +69,9 @@ pub fn last_write(r: &[u8], until: usize, key: &[u8]) -> Row
     w
 }
 
-// What a command finds for a key at its turn, as a part of the recording or of the store: the
-// payload of the last WRITE of the key among the commands before the offset `until`, or else
-// `stored`, which is the body that the store has for the key, empty where it has none.
+// The payload of the last WRITE of the key among the commands whose rows begin before the offset
+// `until`, a part of the recording; or else `stored`, where there is no such WRITE. A WRITE that
+// deletes has the key alone as its payload.
 pub fn turn_finds<'a>(recording: &'a [u8], until: usize, stored: &'a [u8], key: &[u8]) -> &'a [u8]
     requires { ⌜ Until (now recording) until ⌝ }
     ensures { λ b. ⌜ now b ≡ bodyAtTurn (now (key .entry)) (now (recording .entry)) until

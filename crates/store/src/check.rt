@@ -1,5 +1,5 @@
-// The test of the store region's layout: one pass over the rows, 32 at a time, which also gathers
-// the index that searches begin from. No byte of a value is read.
+// The test of the store region's layout: one pass over the rows, 32 at a time, which also notes
+// offsets of rows in the index that searches begin from. No byte of a value is read.
 ghost use mathlib.Core.Path.{_≡_};
 ghost use mathlib.Core.Bool.{true};
 ghost use mathlib.Core.List.{[]};
@@ -27,7 +27,7 @@ fn key_follows(rows: &[u8], prev: usize, at: usize) -> bool
 }
 
 // How far a walk along the rows has come: whether all have passed, and if so, the row before and
-// where the next one is.
+// where the next one is. Where one has not passed, the two offsets are left open.
 struct Walk {
     fine: bool,
     prev: usize,
@@ -68,8 +68,8 @@ fn walk_rows(rows: &[u8], before: usize, from: usize, count: usize) -> Walk
     }
 }
 
-// Whether `rows` is `count` whole rows and nothing else, keys strictly ascending. The offset of
-// every 32nd row is noted in the index, as far as it has room.
+// Whether `rows` is `count` whole rows and nothing else, keys strictly ascending. An index of zeros
+// gets offsets at which rows begin or end; which ones is left open.
 fn rows_fine(rows: &[u8], count: usize, index: &mut [usize]) -> bool
     requires { ⌜ Indexes [] (now index) ⌝ }
     ensures { λ r. ⌜ (r ≡ rowsFine none count (now (rows .entry)))
@@ -95,7 +95,8 @@ fn rows_fine(rows: &[u8], count: usize, index: &mut [usize]) -> bool
 }
 
 // Whether the region holds a store. A region of fewer than 8 bytes does not. An index of zeros is
-// made one of the store on the way.
+// made one of the store on the way; which of the store's rows it names is left open, since a search
+// is right whichever they are.
 pub fn is_fine(st: &[u8], index: &mut [usize]) -> bool
     requires { ⌜ Indexes [] (now index) ⌝ }
     ensures { λ r. ⌜ (r ≡ storeFine (now (st .entry)))

@@ -1,6 +1,6 @@
-// An index of the store: offsets of some of its rows, in the order of their keys. The test of the
-// memory gathers it in each call, and a search begins from the row that is nearest to its key. It
-// lies outside the memory, and a search is right whichever rows it names.
+// An index of the store: offsets at which rows begin, or the rows end. The test of the memory makes
+// it in each call, and a search begins from one of its rows. It lies outside the memory, and a
+// search is right whichever rows it names, in whichever order.
 ghost use mathlib.Core.Path.{_≡_};
 ghost use mathlib.Core.Bool.{true};
 ghost use Prim.Native.Nat.{_+_, _<_};
@@ -39,8 +39,7 @@ fn is_before(st: &[u8], at: usize, key: &[u8]) -> bool
 }
 
 // An offset at which a search for the key can begin: the keys of all rows before it come before
-// `key`. It is the last such offset of an index that has every 32nd row; the first of those is 0,
-// where a search begins without one.
+// `key`. Which one is left open; it is looked for by halving, as if the index had every 32nd row.
 pub fn nearest(st: &[u8], index: &[usize], key: &[u8]) -> usize
     requires { ⌜ (storeFine (now st) ≡ true) × (Indexes (storeOf (now st)) (now index)) ⌝ }
     ensures { λ at. ⌜ Start (now (st .entry)) (now (key .entry)) at ⌝ }

@@ -113,7 +113,7 @@ pub fn row_count(size: usize) -> usize
 
 // Whether a store of `used` bytes and `count` entries, in a room of `room` bytes, is within its
 // limits once a row of `old` bytes is taken out and one of `new` bytes put in; 0 stands for no row.
-pub fn fits_with(room: usize, used: usize, count: usize, old: usize, new: usize) -> bool
+fn fits_with(room: usize, used: usize, count: usize, old: usize, new: usize) -> bool
     requires { ⌜ Exchange room used count old new ⌝ }
     ensures { λ r. ⌜ r ≡ fitsWith room used count old new ⌝ }
 {

@@ -1,7 +1,8 @@
 // The subscriptions region of a slot: the patterns that a client holds, in lent bytes. Number of
 // patterns 4, then sixteen cells of 256 bytes, each a length byte and the pattern. Patterns may be
 // any bytes, and equal ones may stand side by side: every function is right for any list of them.
-// Internal layer: what a function requires is its callers' to show.
+// A function that writes leaves open the bytes of a cell behind its pattern, and the cells behind
+// the last pattern. Internal layer: what a function requires is its callers' to show.
 ghost use mathlib.Core.Path.{_≡_};
 ghost use mathlib.Core.List.{[]};
 ghost use mathlib.Core.Bool.{true};
@@ -49,8 +50,8 @@ pub fn is_held(s: &[u8], pattern: &[u8]) -> bool
     let n = count(s);
     let mut i = 0;
     while i < n {
-        let p = cell_at(s, i);
-        if octets::equal(pattern, p) {
+        let cell = cell_at(s, i);
+        if octets::equal(pattern, cell) {
             return true;
         }
         i += 1;

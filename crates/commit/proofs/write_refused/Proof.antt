@@ -1,6 +1,7 @@
--- `commit::write_refused` meets its contract.
+-- A deletion is never refused; any other WRITE is where its row does not fit in place of the key's.
 use mathlib.Core.Path.{subst, sym, ap}
 use mathlib.Core.Bool.{Bool, not}
+use native.Mathlib.Omega.{arith}
 use borrow.Author.Needs.{needs}
 use Rattle.commit.specs.Contracts.{WriteRefused}
 use Rattle.commit.proofs.Plain.{replacement, refuses-some, refuses-none}
@@ -11,7 +12,9 @@ returns : tie.Need-returns
 returns c = refuses-none (c .before .before .before .pre) (c .if1 .taken)
 
 fits-requires : tie.Need-fits-requires
-fits-requires c κs = replacement (c .before .before .before .pre) (c .if1 .left)
+fits-requires c κs =
+    let h = c .before .before .before .pre in
+    replacement h (omega (arith, h .short))
 
 returns-2 : tie.Need-returns-2
 returns-2 c =

@@ -69,9 +69,10 @@ fn pattern_of(p: &[u8], c: Command) -> Command
 fn read_of(p: &[u8]) -> Command
     ensures { λ r. ⌜ r ≡ readOf (now (p .entry)) ⌝ }
 {
+    let bad_key = Command::Refused(Refusal::Parameter);
     let nul = octets::has_nul(p);
     if nul {
-        return Command::Refused(Refusal::Parameter);
+        return bad_key;
     }
     fitting(p, Command::Read)
 }

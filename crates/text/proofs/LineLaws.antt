@@ -62,7 +62,7 @@ payloadFor-other id fs h n =
       ne-eqb id 7 n,
     )
 
--- ---- whether a byte is stored, by ID
+-- ---- whether a byte can have been stored, by ID
 
 -- SUB, UNSUB, READ, WRITE and PING
 pub stores-field : (id : ℕ) (x : Next) → (id ≡ 0 → ⊥) → (id ≡ 5 → ⊥) → (id ≡ 6 → ⊥) → stores id x ≡ hasField x

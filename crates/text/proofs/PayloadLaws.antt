@@ -176,7 +176,7 @@ rest-of h s e = rw e
 
 -- ---- what the functions build
 
--- no payload, where a byte was stored
+-- no payload, where a byte can have been stored
 fails : {p : Option Bytes} {stored : Bool} {buf buf′ : Bytes} → p ≡ none → stored ≡ true → Fails p stored buf buf′
 fails e h = record { is = e; same = λ q. no (sym h ∙ q) }
 

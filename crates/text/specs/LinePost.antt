@@ -19,16 +19,16 @@ answerOf blank = Blank
 answerOf (refused r) = Refused r
 answerOf (message id p) = Message id (length p)
 
--- whether the fields of a command store a byte; an unknown word is refused before its fields are looked at
+-- whether a refused command can have stored a byte; an unknown word is refused before its fields are looked at
 abbrev pub storesFor : Option ℕ → Bytes → Bool
 storesFor none s = false
 storesFor (some id) s = stores id (next s)
 
--- the same of a line
+-- the same of a refused line
 unfoldable pub storesLine : Bytes → Bool
 storesLine s = storesFor (idOf (word (trim s))) (afterWord (trim s))
 
--- the buffer after a refusal: as it was where no byte was stored; where one was, all but its length is open
+-- the buffer after a refusal: as it was where no byte can have been stored; else all but its length is open
 pub record Kept (stored : Bool) (buf buf′ : Bytes) : Type 0 where
   pub size : length buf′ ≡ length buf
   pub same : stored ≡ false → buf′ ≡ buf

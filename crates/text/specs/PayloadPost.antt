@@ -50,7 +50,7 @@ pub record BuildsAs (p : Option (Bytes)) (most : ℕ) (buf : Bytes) (to n : ℕ)
   pub held : buf′ ≡ sets buf to value
   pub short : n ≤ most
 
--- there is no payload; the buffer is as it was where no byte was stored, and is open where one was
+-- there is no payload; the buffer is as it was where no byte can have been stored, and else it is open
 pub record Fails (p : Option (Bytes)) (stored : Bool) (buf buf′ : Bytes) : Type 0 where
   pub is : p ≡ none
   pub same : stored ≡ false → buf′ ≡ buf
@@ -61,12 +61,12 @@ Builds p stored most buf to (Payload n) buf′ = BuildsAs p most buf to n buf′
 Builds p stored most buf to Faulty2 buf′ = Fails p stored buf buf′
 
 -- the payload that h makes of the fields from `at` on, which is at most a byte longer than the line; f tells by what
--- comes next whether a byte is stored
+-- comes next whether a byte can have been stored where there is none
 abbrev pub BuildsLine : (List Field → Option Bytes) → (Next → Bool) → Bytes → ℕ → Bytes → Built → Bytes → Type 0
 BuildsLine h f line at buf r buf′ =
     Builds (payloadOf h (drop at line)) (f (next (drop at line))) (length line + 1) buf 0 r buf′
 
--- ---- whether a byte is stored
+-- ---- whether fields that are refused can have stored a byte
 
 -- whether a field comes, be it malformed
 abbrev pub hasField : Next → Bool
@@ -78,8 +78,8 @@ hasVersion ended = false
 hasVersion faulty = false
 hasVersion (field x rest) = isSome (version x)
 
--- whether the command with this ID stores a byte of its fields: HELLO where a version comes, BEGIN and COMMIT never,
--- every other one where a field comes
+-- whether the fields of the command with this ID, where they are refused, can have stored a byte: HELLO's where a
+-- version comes, BEGIN's and COMMIT's never, every other one's where a field comes
 unfoldable pub stores : ℕ → Next → Bool
 stores id x = cond (eqb id 0) (hasVersion x) (cond (eqb id 5 || eqb id 6) false (hasField x))
 

@@ -8,7 +8,7 @@ ghost use Rattle.text.specs.Fields.{octal, next};
 ghost use Rattle.text.specs.FieldPost.{Skipped, Spelled, octalOf, CharAt, ScannedAt, FoundAt};
 ghost use Rattle.text.specs.FieldPost.{isEnded};
 
-// A byte that three octal digits spell.
+// A byte that three octal digits spell, or none.
 pub enum Octal {
     Byte(u8),
     Bad,
@@ -29,7 +29,7 @@ pub enum Found {
     Field { len: usize, next: usize, nul: bool },
 }
 
-// The first index from `at` on whose byte is no space.
+// The first index from `at` on whose byte is no space, or the line's length.
 pub fn skip_spaces(line: &[u8], at: usize) -> usize
     requires { ⌜ at ≤ length (now line) ⌝ }
     ensures { λ r. ⌜ Skipped (now (line .entry)) at r ⌝ }
@@ -44,7 +44,7 @@ pub fn skip_spaces(line: &[u8], at: usize) -> usize
     i
 }
 
-// The first index from `at` on whose byte is a space.
+// The first index from `at` on whose byte is a space, or the line's length.
 pub fn word_end(line: &[u8], at: usize) -> usize
     requires { ⌜ at ≤ length (now line) ⌝ }
     ensures { λ r. ⌜ Spelled (now (line .entry)) at r ⌝ }

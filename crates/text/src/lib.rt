@@ -56,9 +56,9 @@ fn build(id: u8, line: &[u8], at: usize, buf: &mut [u8]) -> Translated
 // is. An unknown word is refused as an unknown message, and a missing, surplus or malformed field
 // as a bad parameter.
 //
-// A refused line leaves buf as it is where it stores nothing: for an unknown word, BEGIN, COMMIT, a
-// HELLO without a good version, and every other command without a field. Of any other refused line
-// some fields may stand in buf: what it then holds is left open, but for its length.
+// A refused line leaves buf as it is where it can store nothing: for an unknown word, BEGIN,
+// COMMIT, a HELLO without a good version, and every other command without a field. Of any other
+// refused line some fields may stand in buf: what it then holds is left open, but for its length.
 pub fn translate(line: &[u8], buf: &mut [u8]) -> Translated
     ensures { λ r. ⌜ Translates (lineOf (now (line .entry))) (storesLine (now (line .entry)))
         (now (buf .entry)) r (now (buf .exit)) ⌝ }

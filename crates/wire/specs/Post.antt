@@ -29,7 +29,7 @@ roomIn Stream m = 0
 roomIn Framed m = 0
 roomIn Text m = cond (endsLine (lastByte m)) (length (front m)) 0
 
--- whether a text message stores a byte in the buffer; an over-long line has no ending byte, and stores none
+-- whether a refused text message can have stored a byte; an over-long line, which has no ending byte, stores none
 abbrev pub storesText : Bytes → Bool
 storesText m = endsLine (lastByte m) && storesLine (front m)
 

@@ -120,8 +120,8 @@ fn read_text(m: &[u8], buf: &mut [u8]) -> Reading
 // line, its ending byte not counted. buf stays as it is after a packet, a frame, an empty message,
 // an over-long line, a blank line and a `Short`. Where a line has an ID and a payload, the payload
 // stands at the start of buf, also where the command is then refused. A line that is refused before
-// that leaves buf as it is where it stores nothing, which `text::translate` tells; where it stores
-// some of its fields, what buf holds is left open, but for its length.
+// that leaves buf as it is where it can store nothing, which `text::translate` tells; of any other
+// some fields may stand in buf, and what it holds is left open, but for its length.
 pub fn read(kind: Kind, message: &[u8], buf: &mut [u8]) -> Reading
     ensures { λ r. ⌜ Reads kind (now (message .entry)) (now (buf .entry)) r (now (buf .exit)) ⌝ }
 {

@@ -26,7 +26,7 @@ pub enum Command {
     Refused(Refusal),
 }
 
-// c, where the payload p is not too long for any command.
+// c, or no room where the payload p passes 65,535 bytes.
 fn fitting(p: &[u8], c: Command) -> Command
     ensures { λ r. ⌜ r ≡ Commands.fitting (now (p .entry)) c ⌝ }
 {
@@ -37,7 +37,7 @@ fn fitting(p: &[u8], c: Command) -> Command
     }
 }
 
-// HELLO: a version byte and a text.
+// HELLO: a version byte, else it is a bad parameter, and a text.
 fn hello_of(p: &[u8]) -> Command
     ensures { λ r. ⌜ r ≡ helloOf (now (p .entry)) ⌝ }
 {
@@ -47,7 +47,8 @@ fn hello_of(p: &[u8]) -> Command
     fitting(p, Command::Hello)
 }
 
-// c, SUB or UNSUB, of the pattern p.
+// c, SUB or UNSUB, of the pattern p: a NUL or an invalid pattern is a bad parameter, then one over
+// 255 bytes is no room.
 fn pattern_of(p: &[u8], c: Command) -> Command
     ensures { λ r. ⌜ r ≡ patternOf (now (p .entry)) c ⌝ }
 {
@@ -65,13 +66,14 @@ fn pattern_of(p: &[u8], c: Command) -> Command
     }
 }
 
-// READ of the key p.
+// READ of the key p, in which a NUL is a bad parameter.
 fn read_of(p: &[u8]) -> Command
     ensures { λ r. ⌜ r ≡ readOf (now (p .entry)) ⌝ }
 {
+    let bad_key = Command::Refused(Refusal::Parameter);
     let nul = octets::has_nul(p);
     if nul {
-        return Command::Refused(Refusal::Parameter);
+        return bad_key;
     }
     fitting(p, Command::Read)
 }
@@ -101,7 +103,7 @@ fn write_of(p: &[u8]) -> Command
     fitting(p, Command::Write { key: n, written: w })
 }
 
-// c, BEGIN or COMMIT, which has no payload.
+// c, BEGIN or COMMIT, for which a payload is a bad parameter.
 fn empty_of(p: &[u8], c: Command) -> Command
     ensures { λ r. ⌜ r ≡ emptyOf (now (p .entry)) c ⌝ }
 {

@@ -9,7 +9,7 @@ ghost use Rattle.framing.specs.Ends.{endCount, ends};
 use protocol::Kind;
 
 // Whether a stream whose first byte is c is text.
-pub fn starts_text(c: u8) -> bool
+fn starts_text(c: u8) -> bool
     ensures { λ r. ⌜ r ≡ startsText c ⌝ }
 {
     match c {

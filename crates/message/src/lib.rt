@@ -25,7 +25,8 @@ pub enum Shape {
     Quoted,
     // A key up to the first NUL, and the rest, if there is a NUL, as a value.
     Keyed,
-    // No fields.
+    // No fields, as BEGIN and COMMIT have none. No message of the server is so: it is there for a
+    // writer of commands.
     Bare,
 }
 

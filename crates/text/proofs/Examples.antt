@@ -1,5 +1,6 @@
 -- Lines and the messages that they are, computed: document 01's own, then cases that are easy to get wrong.
 use mathlib.Core.Path.{_≡_, refl}
+use mathlib.Core.Bool.{Bool, true, false}
 use mathlib.Core.List.{List, [], _∷_, map}
 use Prim.Native.String.{String}
 use Rattle.octets.specs.Octets.{ascii, hasNul}
@@ -10,6 +11,8 @@ use Rattle.text.specs.Fields.{trim, word, afterWord, octal, onto, closed
 use Rattle.text.specs.Fields.{fields}
 use Rattle.text.specs.Payload.{decimal, allDigits, numberFrom, version, keyed, byCount, payloadFor}
 use Rattle.text.specs.Line.{Line, blank, refused, message, payloadOf, begun, lineOf}
+use Rattle.text.specs.PayloadPost.{stores}
+use Rattle.text.specs.LinePost.{storesLine}
 
 abbrev computed : String × Line → Line
 computed e = lineOf (ascii (e .0))
@@ -79,3 +82,30 @@ pub commands-hold : map computed commands ≡ map given commands
 unfolding hasNul trim word afterWord octal onto closed quoted escaped starting next fields ascii lower same lookUp
     idOf decimal allDigits numberFrom version keyed byCount payloadFor payloadOf begun lineOf
 commands-hold = refl
+
+-- refused lines, and whether each can have stored a byte in the buffer
+abbrev refusals : List (String × Bool)
+refusals =
+    ("nope x", false)
+    ∷ ("BEGIN x", false)
+    ∷ ("c \"", false)
+    ∷ ("hello 256 x", false)
+    ∷ ("hello \"1\"", false)
+    ∷ ("r", false)
+    ∷ ("w  ", false)
+    ∷ ("hello 1 a b", true)
+    ∷ ("r a b", true)
+    ∷ ("p \"a", true)
+    ∷ ("w k a b", true)
+    ∷ []
+
+abbrev stored : String × Bool → Bool
+stored e = storesLine (ascii (e .0))
+
+abbrev storedGiven : String × Bool → Bool
+storedGiven e = e .1
+
+pub refusals-hold : map stored refusals ≡ map storedGiven refusals
+unfolding trim word afterWord octal onto closed quoted escaped starting next ascii lower same lookUp idOf decimal
+    allDigits numberFrom version stores storesLine
+refusals-hold = refl

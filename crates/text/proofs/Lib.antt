@@ -4,4 +4,5 @@ pub mod NumberLaws
 pub mod PayloadLaws
 pub mod LineLaws
 pub mod LengthLaws
+pub mod Escapes
 pub mod Examples

@@ -18,8 +18,7 @@ use Rattle.text.specs.Payload.{numberFrom, byCount, notOne, notTwo, theF
 use Rattle.text.specs.Payload.{writePayload}
 use Rattle.text.specs.Line.{made, payloadOf}
 use Rattle.text.specs.FieldPost.{Skipped, Spelled, isEnded, FoundAs, FoundAt, ScannedAt}
-use Rattle.text.specs.PayloadPost.{VersionAs, BuildsAs}
-use Rattle.text.specs.PayloadPost.{valuePayload, numberOf}
+use Rattle.text.specs.PayloadPost.{VersionAs, BuildsAs, Fails, hasField, hasVersion, valuePayload, numberOf}
 use Rattle.text.specs.declared.fields.Found.{Found}
 use Rattle.text.specs.declared.fields.Found.the-variants.{Nothing, Faulty, Field as Field1}
 use Rattle.text.specs.declared.payloads.Number.the-variants.{Is, Bad}
@@ -69,11 +68,11 @@ ended-is faulty l = no (sym l)
 ended-is (field y q) l = no (sym l)
 
 module _ (a : Option Bytes) (f : Field → Option Bytes) (g : Field → Field → Option Bytes) (s : Bytes) where
-  pub pay-none : next s ≡ ended → payloadOf (byCount a f g) s ≡ a
+  pay-none : next s ≡ ended → payloadOf (byCount a f g) s ≡ a
   unfolding payloadOf fields byCount
   pay-none e = rw e
 
-  pub pay-bad : next s ≡ faulty → payloadOf (byCount a f g) s ≡ none
+  pay-bad : next s ≡ faulty → payloadOf (byCount a f g) s ≡ none
   unfolding payloadOf fields
   pay-bad e = rw e
 
@@ -177,6 +176,20 @@ rest-of h s e = rw e
 
 -- ---- what the functions build
 
+-- no payload, where a byte can have been stored
+fails : {p : Option Bytes} {stored : Bool} {buf buf′ : Bytes} → p ≡ none → stored ≡ true → Fails p stored buf buf′
+fails e h = record { is = e; same = λ q. no (sym h ∙ q) }
+
+pub fails-missing : (f : Field → Option Bytes) (g : Field → Field → Option Bytes) (s : Bytes) (buf buf′ : Bytes)
+    → next s ≡ ended → buf′ ≡ buf
+    → Fails (payloadOf (byCount none f g) s) (hasField (next s)) buf buf′
+fails-missing f g s buf buf′ e k = record { is = pay-none none f g s e; same = λ q. k }
+
+pub fails-faulty : (a : Option Bytes) (f : Field → Option Bytes) (g : Field → Field → Option Bytes) (s : Bytes)
+    {buf buf′ : Bytes}
+    → next s ≡ faulty → Fails (payloadOf (byCount a f g) s) (hasField (next s)) buf buf′
+fails-faulty a f g s e = fails (pay-bad a f g s e) (rw e)
+
 pub nothing : (f : Field → Option Bytes) (g : Field → Field → Option Bytes) (s : Bytes) (most : ℕ) (buf buf′ : Bytes)
     → next s ≡ ended → buf′ ≡ buf
     → BuildsAs (payloadOf (byCount (some []) f g) s) most buf 0 0 buf′
@@ -195,13 +208,17 @@ module _ {line : Bytes} {at n r : ℕ} {nul : Bool} {buf buf′ : Bytes} (w : Fo
   }
 
   pub one-more : (a : Option Bytes) → isEnded (next (drop r line)) ≡ false
-      → payloadOf (byCount a theField notTwo) (drop at line) ≡ none
-  one-more a e = pay-one-more a theField (drop at line) (w .is) e
+      → Fails (payloadOf (byCount a theField notTwo) (drop at line)) (hasField (next (drop at line))) buf buf′
+  one-more a e = fails (pay-one-more a theField (drop at line) (w .is) e) (rw (w .is))
 
   -- WRITE: a key, and what follows it
-  pub write-nul : nul ≡ true → payloadOf writePayload (drop at line) ≡ none
-  write-nul e = rest-of writePayload (drop at line) (w .is) ∙ nul-key (w .value) (fields 1 (drop r line))
-      (sym (w .stored .nuls) ∙ e)
+  pub write-nul : nul ≡ true
+      → Fails (payloadOf writePayload (drop at line)) (hasField (next (drop at line))) buf buf′
+  write-nul e =
+      fails
+      (rest-of writePayload (drop at line) (w .is)
+      ∙ nul-key (w .value) (fields 1 (drop r line)) (sym (w .stored .nuls) ∙ e))
+      (rw (w .is))
 
   pub write-built : {m : ℕ} {buf″ : Bytes} → nul ≡ false
       → BuildsAs (made valuePayload (fields 1 (drop r line))) (length line + 1 - r) buf′ n m buf″
@@ -215,8 +232,11 @@ module _ {line : Bytes} {at n r : ℕ} {nul : Bool} {buf buf′ : Bytes} (w : Fo
     short = omega (arith, w .short, w .within, v .short);
   }
 
-  pub write-bad : made valuePayload (fields 1 (drop r line)) ≡ none → payloadOf writePayload (drop at line) ≡ none
-  write-bad e = rest-of writePayload (drop at line) (w .is) ∙ bad-rest (w .value) (fields 1 (drop r line)) e
+  pub write-bad : {buf″ : Bytes} → Fails (made valuePayload (fields 1 (drop r line))) true buf′ buf″
+      → Fails (payloadOf writePayload (drop at line)) (hasField (next (drop at line))) buf buf″
+  write-bad v =
+      fails (rest-of writePayload (drop at line) (w .is) ∙ bad-rest (w .value) (fields 1 (drop r line)) (v .is))
+      (rw (w .is))
 
 -- WRITE: what follows the key
 
@@ -225,9 +245,10 @@ pub value-none : (s : Bytes) (most : ℕ) (buf : Bytes) (len : ℕ) (buf′ : By
 unfolding fields byCount
 value-none s most buf len buf′ e k = record { value = []; is = rw e; count = refl; held = k; short = omega arith }
 
-pub value-bad : (s : Bytes) → next s ≡ faulty → made valuePayload (fields 1 s) ≡ none
+pub value-bad : (s : Bytes) {buf buf′ : Bytes} → next s ≡ faulty
+    → Fails (made valuePayload (fields 1 s)) true buf buf′
 unfolding fields
-value-bad s e = rw e
+value-bad s e = fails (rw e) refl
 
 module _ (len : ℕ) {line : Bytes} {at n r : ℕ} {nul : Bool} {buf buf′ : Bytes}
     (w : FoundAs line at n r nul buf (len + 1) buf′) where
@@ -244,9 +265,10 @@ module _ (len : ℕ) {line : Bytes} {at n r : ℕ} {nul : Bool} {buf buf′ : By
         short = omega (arith, w .short, w .within);
       }
 
-  pub value-more : isEnded (next (drop r line)) ≡ false → made valuePayload (fields 1 (drop at line)) ≡ none
+  pub value-more : {buf″ : Bytes} → isEnded (next (drop r line)) ≡ false
+      → Fails (made valuePayload (fields 1 (drop at line))) true buf buf″
   unfolding fields
-  value-more l = rw (w .is) (more (next (drop r line)) l)
+  value-more l = fails (rw (w .is) (more (next (drop r line)) l)) refl
     where
       more : (z : Next) → isEnded z ≡ false
           → made valuePayload (Option·map (_∷_ (w .value)) (followed z (λ rest. none))) ≡ none
@@ -289,8 +311,12 @@ module _ {line : Bytes} {at v r : ℕ} (w : VersionAs line at v r) (buf buf′ :
     short = omega arith;
   }
 
-  pub hello-fault : next (drop r line) ≡ faulty → payloadOf helloPayload (drop at line) ≡ none
-  hello-fault e = pay-one-bad _ _ _ (drop at line) (w .is) e
+  version-stored : hasVersion (next (drop at line)) ≡ true
+  version-stored = rw (w .is, w .number)
+
+  pub hello-fault : {buf″ : Bytes} → next (drop r line) ≡ faulty
+      → Fails (payloadOf helloPayload (drop at line)) (hasVersion (next (drop at line))) buf buf″
+  hello-fault e = fails (pay-one-bad _ _ _ (drop at line) (w .is) e) version-stored
 
   module _ {n q : ℕ} {nul : Bool} {buf″ : Bytes} (t : FoundAs line r n q nul buf′ 1 buf″) where
     pub hello-text : isEnded (next (drop q line)) ≡ true
@@ -303,8 +329,9 @@ module _ {line : Bytes} {at v r : ℕ} (w : VersionAs line at v r) (buf buf′ :
       short = omega (arith, t .short, t .within);
     }
 
-    pub hello-more : isEnded (next (drop q line)) ≡ false → payloadOf helloPayload (drop at line) ≡ none
-    hello-more e = pay-two-more _ _ _ (drop at line) (w .is) (t .is) e
+    pub hello-more : isEnded (next (drop q line)) ≡ false
+        → Fails (payloadOf helloPayload (drop at line)) (hasVersion (next (drop at line))) buf buf″
+    hello-more e = fails (pay-two-more _ _ _ (drop at line) (w .is) (t .is) e) version-stored
 
 -- ---- the next field, as it is read
 

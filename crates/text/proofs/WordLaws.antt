@@ -128,15 +128,15 @@ row-passes f (r ∷ rs) d (suc i) e h = row-passes f rs d i (tail (f r) e) h
     tail false e = let z : _≡_ {A = ℕ} 0 1 = cc in absurd (omega arith)
 
 -- a word stands within its six bytes
-pub row-fits : (i : ℕ) (r : Row) → r ≡ rowAt i → r .length ≤ length (r .word)
+pub row-fits : (i : ℕ) (r : Row) → r ≡ rowAt i → r .len ≤ length (r .word)
 row-fits i r e =
-    rw e (leb-true _ _ (row-passes (λ r. leb (r .length) (length (r .word))) rows noRow i refl refl))
+    rw e (leb-true _ _ (row-passes (λ r. leb (r .len) (length (r .word))) rows noRow i refl refl))
 
 module _ (w : Bytes) (i : ℕ) (r : Row) (e : r ≡ rowAt i) where
-  pub named-word : same w (take (r .length) (r .word)) ≡ true → true ≡ names w (entryOf (rowAt i))
+  pub named-word : same w (take (r .len) (r .word)) ≡ true → true ≡ names w (entryOf (rowAt i))
   named-word h = rw (← e, h)
 
-  pub named-letter : same w (take (r .length) (r .word)) ≡ false
+  pub named-letter : same w (take (r .len) (r .word)) ≡ false
       → isLetter w (letterOf (r .letter)) ≡ names w (entryOf (rowAt i))
   named-letter h = rw (← e, h)
 

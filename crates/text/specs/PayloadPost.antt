@@ -1,14 +1,17 @@
 -- What the functions on payloads ensure. A place in a line is an index; `drop at line` is what stands from there on.
 use mathlib.Core.Path.{_≡_}
 use mathlib.Core.List.{List, [], _∷_}
-use mathlib.Core.Bool.{Bool, cond}
+use mathlib.Core.Bool.{Bool, false, cond, not, _||_}
 use mathlib.Core.Option.{Option, none, some}
 use Prim.Native.Nat.{ℕ, _+_, _≤_}
+use lib.Dec.{eqb}
 use lib.ListN.{length, drop}
 use lib.Seq.{sets}
 use Rattle.octets.specs.Octets.{Bytes}
+use Rattle.octets.specs.Options.{isSome}
 use Rattle.text.specs.Fields.{Field, bytesOf}
-use Rattle.text.specs.Fields.{ended, field, next}
+use Rattle.text.specs.Fields.{Next, ended, faulty, field, next}
+use Rattle.text.specs.FieldPost.{isEnded}
 use Rattle.text.specs.Line.{payloadOf}
 use Rattle.text.specs.Payload.{byCount, notTwo, theField, version, helloPayload}
 use Rattle.protocol.specs.declared.Refusal.the-variants.{Parameter}
@@ -47,14 +50,40 @@ pub record BuildsAs (p : Option (Bytes)) (most : ℕ) (buf : Bytes) (to n : ℕ)
   pub held : buf′ ≡ sets buf to value
   pub short : n ≤ most
 
--- the same by what the code gives
-abbrev pub Builds : Option (Bytes) → ℕ → Bytes → ℕ → Built → Bytes → Type 0
-Builds p most buf to (Payload n) buf′ = BuildsAs p most buf to n buf′
-Builds p most buf to Faulty2 buf′ = p ≡ none
+-- there is no payload; the buffer is as it was where no byte can have been stored, and else it is open
+pub record Fails (p : Option (Bytes)) (stored : Bool) (buf buf′ : Bytes) : Type 0 where
+  pub is : p ≡ none
+  pub same : stored ≡ false → buf′ ≡ buf
 
--- the payload that h makes of the fields from `at` on, which is at most a byte longer than the line
-abbrev pub BuildsLine : (List Field → Option Bytes) → Bytes → ℕ → Bytes → Built → Bytes → Type 0
-BuildsLine h line at buf r buf′ = Builds (payloadOf h (drop at line)) (length line + 1) buf 0 r buf′
+-- the same by what the code gives
+abbrev pub Builds : Option (Bytes) → Bool → ℕ → Bytes → ℕ → Built → Bytes → Type 0
+Builds p stored most buf to (Payload n) buf′ = BuildsAs p most buf to n buf′
+Builds p stored most buf to Faulty2 buf′ = Fails p stored buf buf′
+
+-- the payload that h makes of the fields from `at` on, which is at most a byte longer than the line; f tells by what
+-- comes next whether a byte can have been stored where there is none
+abbrev pub BuildsLine : (List Field → Option Bytes) → (Next → Bool) → Bytes → ℕ → Bytes → Built → Bytes → Type 0
+BuildsLine h f line at buf r buf′ =
+    Builds (payloadOf h (drop at line)) (f (next (drop at line))) (length line + 1) buf 0 r buf′
+
+-- ---- whether fields that are refused can have stored a byte
+
+-- whether a field comes, be it malformed
+abbrev pub hasField : Next → Bool
+hasField x = not (isEnded x)
+
+-- whether a version comes
+abbrev pub hasVersion : Next → Bool
+hasVersion ended = false
+hasVersion faulty = false
+hasVersion (field x rest) = isSome (version x)
+
+-- whether the fields of the command with this ID, where they are refused, can have stored a byte: HELLO's where a
+-- version comes, BEGIN's and COMMIT's never, every other one's where a field comes
+unfoldable pub stores : ℕ → Next → Bool
+stores id x = cond (eqb id 0) (hasVersion x) (cond (eqb id 5 || eqb id 6) false (hasField x))
+
+-- ---- payloads in parts
 
 -- what follows the key in a WRITE's payload
 abbrev pub valuePayload : List Field → Option (Bytes)

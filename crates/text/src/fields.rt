@@ -8,7 +8,7 @@ ghost use Rattle.text.specs.Fields.{octal, next};
 ghost use Rattle.text.specs.FieldPost.{Skipped, Spelled, octalOf, CharAt, ScannedAt, FoundAt};
 ghost use Rattle.text.specs.FieldPost.{isEnded};
 
-// A byte that three octal digits spell.
+// A byte that three octal digits spell, or none.
 pub enum Octal {
     Byte(u8),
     Bad,
@@ -29,7 +29,7 @@ pub enum Found {
     Field { len: usize, next: usize, nul: bool },
 }
 
-// The first index from `at` on whose byte is no space.
+// The first index from `at` on whose byte is no space, or the line's length.
 pub fn skip_spaces(line: &[u8], at: usize) -> usize
     requires { ⌜ at ≤ length (now line) ⌝ }
     ensures { λ r. ⌜ Skipped (now (line .entry)) at r ⌝ }
@@ -44,7 +44,7 @@ pub fn skip_spaces(line: &[u8], at: usize) -> usize
     i
 }
 
-// The first index from `at` on whose byte is a space.
+// The first index from `at` on whose byte is a space, or the line's length.
 pub fn word_end(line: &[u8], at: usize) -> usize
     requires { ⌜ at ≤ length (now line) ⌝ }
     ensures { λ r. ⌜ Spelled (now (line .entry)) at r ⌝ }
@@ -126,7 +126,8 @@ fn noted(nul: bool, b: u8) -> bool
     if nul { true } else { b == 0 }
 }
 
-// A quoted field from behind its opening quote; its bytes go to buf from `to` on.
+// A quoted field from behind its opening quote; its bytes go to buf from `to` on. After a malformed
+// one what buf holds is left open.
 fn quoted_field(line: &[u8], at: usize, buf: &mut [u8], to: usize) -> Found
     requires { ⌜ (at ≤ length (now line)) × (to ≤ length (now line) + 1) ⌝ }
     ensures { λ r. ⌜ ScannedAt (now (line .entry)) at (now (buf .entry)) to r (now (buf .exit)) ⌝ }
@@ -156,7 +157,8 @@ fn quoted_field(line: &[u8], at: usize, buf: &mut [u8], to: usize) -> Found
     Found::Faulty
 }
 
-// The next field from `at` on; its bytes go to buf from `to` on.
+// The next field from `at` on; its bytes go to buf from `to` on. Where none comes buf stays as it
+// is, and after a malformed one what buf holds is left open.
 pub fn next_field(line: &[u8], at: usize, buf: &mut [u8], to: usize) -> Found
     requires { ⌜ (at ≤ length (now line)) × (to ≤ length (now line) + 1) ⌝ }
     ensures { λ r. ⌜ FoundAt (now (line .entry)) at (now (buf .entry)) to r (now (buf .exit)) ⌝ }

@@ -11,13 +11,13 @@ ghost use Prim.Native.Nat.{_≤_};
 ghost use lib.ListN.{length, drop};
 ghost use Rattle.text.specs.Line.{ofId, lineOf};
 ghost use Rattle.text.specs.PayloadPost.{builtAs};
-ghost use Rattle.text.specs.LinePost.{Translates};
+ghost use Rattle.text.specs.LinePost.{storesFor, storesLine, Translates};
 use payloads::Built;
 use protocol::Refusal;
 use words::Named;
 
-// What a line is: blank, a message whose payload is the first `len` bytes of the buffer, or
-// refused.
+// What a line is: blank; a message, whose payload of `len` bytes stands at the start of the buffer,
+// as far as that goes; or refused.
 pub enum Translated {
     Blank,
     Message { id: u8, len: usize },
@@ -34,10 +34,12 @@ fn answer(id: u8, b: Built) -> Translated
     }
 }
 
-// The fields from `at` on as the payload of the command with this ID.
+// The fields from `at` on as the payload of the command with this ID. Where they are refused, buf
+// is as `translate` says.
 fn build(id: u8, line: &[u8], at: usize, buf: &mut [u8]) -> Translated
     requires { ⌜ at ≤ length (now line) ⌝ }
     ensures { λ r. ⌜ Translates (ofId (some id) (drop at (now (line .entry))))
+        (storesFor (some id) (drop at (now (line .entry))))
         (now (buf .entry)) r (now (buf .exit)) ⌝ }
 {
     match id {
@@ -50,11 +52,15 @@ fn build(id: u8, line: &[u8], at: usize, buf: &mut [u8]) -> Translated
     }
 }
 
-// What the line is; a message's payload goes to the start of buf. An unknown word is refused as an
-// unknown message, and a missing, surplus or malformed field as a bad parameter; what buf then
-// holds is left open.
+// What the line is; a message's payload goes to the start of buf, and a blank line leaves buf as it
+// is. An unknown word is refused as an unknown message, and a missing, surplus or malformed field
+// as a bad parameter.
+//
+// A refused line leaves buf as it is where it can store nothing: for an unknown word, BEGIN,
+// COMMIT, a HELLO without a good version, and every other command without a field. Of any other
+// refused line some fields may stand in buf: what it then holds is left open, but for its length.
 pub fn translate(line: &[u8], buf: &mut [u8]) -> Translated
-    ensures { λ r. ⌜ Translates (lineOf (now (line .entry)))
+    ensures { λ r. ⌜ Translates (lineOf (now (line .entry))) (storesLine (now (line .entry)))
         (now (buf .entry)) r (now (buf .exit)) ⌝ }
 {
     let i = fields::skip_spaces(line, 0);

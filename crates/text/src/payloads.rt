@@ -1,6 +1,7 @@
 // The fields of a line as the payload of its command, in binary form.
 ghost use mathlib.Core.Path.{_≡_};
 ghost use mathlib.Core.List.{List};
+ghost use mathlib.Core.Bool.{true, false};
 ghost use Prim.Native.Nat.{ℕ, _+_, _-_, _≤_, _<_};
 ghost use lib.ListN.{length, drop};
 ghost use Rattle.text.specs.Fields.{fields};
@@ -9,7 +10,7 @@ ghost use Rattle.text.specs.Payload.{noPayload};
 ghost use Rattle.text.specs.Line.{made};
 ghost use Rattle.text.specs.PayloadPost.{numberOf, VersionAt, valuePayload, singlePayload};
 ghost use Rattle.text.specs.PayloadPost.{Builds};
-ghost use Rattle.text.specs.PayloadPost.{BuildsLine};
+ghost use Rattle.text.specs.PayloadPost.{BuildsLine, hasField, hasVersion};
 use crate::fields::Found;
 use crate::fields::is_ended;
 use crate::fields::next_field;
@@ -87,7 +88,8 @@ fn version_field(line: &[u8], at: usize) -> Version
 // No field at all: BEGIN, COMMIT.
 pub fn no_field(line: &[u8], at: usize) -> Built
     requires { ⌜ at ≤ length (now line) ⌝ }
-    ensures { λ r. ⌜ ((buf : List ℕ) → BuildsLine noPayload (now (line .entry)) at buf r buf) ⌝ }
+    ensures { λ r. ⌜ ((buf : List ℕ) →
+        BuildsLine noPayload (λ x. false) (now (line .entry)) at buf r buf) ⌝ }
 {
     let last = is_ended(line, at);
     if last {
@@ -97,10 +99,11 @@ pub fn no_field(line: &[u8], at: usize) -> Built
     }
 }
 
-// One field: SUB, UNSUB, READ; or, where it is optional, one or none: PING.
+// One field: SUB, UNSUB, READ; or, where it is optional, one or none: PING. A missing one leaves
+// buf as it is; after any other fault what buf holds is left open.
 pub fn one_field(line: &[u8], at: usize, buf: &mut [u8], optional: bool) -> Built
     requires { ⌜ at ≤ length (now line) ⌝ }
-    ensures { λ r. ⌜ BuildsLine (singlePayload optional) (now (line .entry)) at
+    ensures { λ r. ⌜ BuildsLine (singlePayload optional) hasField (now (line .entry)) at
         (now (buf .entry)) r (now (buf .exit)) ⌝ }
 {
     let f = next_field(line, at, buf, 0);
@@ -125,10 +128,10 @@ pub fn one_field(line: &[u8], at: usize, buf: &mut [u8], optional: bool) -> Buil
 }
 
 // What follows a key of `len` bytes in the payload of a WRITE: nothing, or NUL and a value. Gives
-// how many bytes.
+// how many bytes. After a fault what buf holds is left open.
 fn value_field(line: &[u8], at: usize, buf: &mut [u8], len: usize) -> Built
     requires { ⌜ (at ≤ length (now line)) × (len ≤ length (now line)) ⌝ }
-    ensures { λ r. ⌜ Builds (made valuePayload (fields 1 (drop at (now (line .entry)))))
+    ensures { λ r. ⌜ Builds (made valuePayload (fields 1 (drop at (now (line .entry))))) true
         (length (now (line .entry)) + 1 - at) (now (buf .entry)) len r (now (buf .exit)) ⌝ }
 {
     let v = next_field(line, at, buf, len + 1);
@@ -151,10 +154,11 @@ fn value_field(line: &[u8], at: usize, buf: &mut [u8], len: usize) -> Built
     }
 }
 
-// A key without NUL, and a value or none: WRITE.
+// A key without NUL, and a value or none: WRITE. A missing key leaves buf as it is; after any other
+// fault what buf holds is left open.
 pub fn write_fields(line: &[u8], at: usize, buf: &mut [u8]) -> Built
     requires { ⌜ at ≤ length (now line) ⌝ }
-    ensures { λ r. ⌜ BuildsLine writePayload (now (line .entry)) at
+    ensures { λ r. ⌜ BuildsLine writePayload hasField (now (line .entry)) at
         (now (buf .entry)) r (now (buf .exit)) ⌝ }
 {
     let k = next_field(line, at, buf, 0);
@@ -174,10 +178,11 @@ pub fn write_fields(line: &[u8], at: usize, buf: &mut [u8]) -> Built
     }
 }
 
-// A version and a text, or a version, or none: HELLO.
+// A version and a text, or a version, or none: HELLO. A bad version leaves buf as it is; after any
+// other fault what buf holds is left open.
 pub fn hello_fields(line: &[u8], at: usize, buf: &mut [u8]) -> Built
     requires { ⌜ at ≤ length (now line) ⌝ }
-    ensures { λ r. ⌜ BuildsLine helloPayload (now (line .entry)) at
+    ensures { λ r. ⌜ BuildsLine helloPayload hasVersion (now (line .entry)) at
         (now (buf .entry)) r (now (buf .exit)) ⌝ }
 {
     let v = version_field(line, at);

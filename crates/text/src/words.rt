@@ -9,7 +9,7 @@ ghost use Rattle.text.specs.Table.{rowAt, letterOf, entryOf, namedOf};
 // A word in small letters, filled up with NUL, and its length; its letter, NUL for none; its ID.
 pub struct Row {
     pub word: [u8; 6],
-    pub length: usize,
+    pub len: usize,
     pub letter: u8,
     pub id: u8,
 }
@@ -23,49 +23,49 @@ pub enum Named {
 const ROWS: [Row; 8] = [
     Row {
         word: *b"hello\0",
-        length: 5,
+        len: 5,
         letter: 0,
         id: 0,
     },
     Row {
         word: *b"sub\0\0\0",
-        length: 3,
+        len: 3,
         letter: b's',
         id: 1,
     },
     Row {
         word: *b"unsub\0",
-        length: 5,
+        len: 5,
         letter: b'u',
         id: 2,
     },
     Row {
         word: *b"read\0\0",
-        length: 4,
+        len: 4,
         letter: b'r',
         id: 3,
     },
     Row {
         word: *b"write\0",
-        length: 5,
+        len: 5,
         letter: b'w',
         id: 4,
     },
     Row {
         word: *b"begin\0",
-        length: 5,
+        len: 5,
         letter: b'b',
         id: 5,
     },
     Row {
         word: *b"commit",
-        length: 6,
+        len: 6,
         letter: b'c',
         id: 6,
     },
     Row {
         word: *b"ping\0\0",
-        length: 4,
+        len: 4,
         letter: b'p',
         id: 7,
     },
@@ -129,7 +129,7 @@ fn is_named(w: &[u8], i: usize) -> bool
 {
     let row = row_at(i);
     let word = row.word;
-    let n = row.length;
+    let n = row.len;
     let named = is_word(w, &word[..n]);
     if named {
         return true;

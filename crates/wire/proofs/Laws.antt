@@ -14,7 +14,7 @@ use Rattle.protocol.specs.declared.Refusal.{Refusal}
 use Rattle.protocol.specs.declared.Refusal.the-variants.{Unknown, Room}
 use Rattle.framing.specs.Framing.{endsLine}
 use Rattle.text.specs.Line.{Line, blank, refused, message, lineOf}
-use Rattle.text.specs.LinePost.{Translates}
+use Rattle.text.specs.LinePost.{storesLine, Translates}
 use Rattle.text.specs.declared.Translated.the-variants.{Blank as Blank₁, Message, Refused as Refused₁}
 use Rattle.text.proofs.LengthLaws.{payload-length}
 use Rattle.command.specs.declared.Command.{Command as Command₁}
@@ -76,31 +76,31 @@ binary-cons skip (id ∷ m) c h p e f =
 pub take-sets : (buf p : Bytes) → length p ≤ length buf → take (length p) (sets buf 0 p) ≡ p
 take-sets buf p h = rw (sets-eq p buf 0 (omega arith)) (take-append-seam p (drop (0 + length p) buf))
 
-module _ (line buf buf′ : Bytes) where
-  pub line-blank : Translates (lineOf line) buf Blank₁ buf′ → ReadsLine (lineOf line) buf Blank buf′
+module _ (line buf buf′ : Bytes) {stored : Bool} where
+  pub line-blank : Translates (lineOf line) stored buf Blank₁ buf′ → ReadsLine (lineOf line) stored buf Blank buf′
   line-blank w = by (lineOf line) w
     where
-      by : (l : Line) → Translates l buf Blank₁ buf′ → ReadsLine l buf Blank buf′
+      by : (l : Line) → Translates l stored buf Blank₁ buf′ → ReadsLine l stored buf Blank buf′
       by blank w = record { answer = refl; held = w .held }
       by (refused r) w = let a = w .answer in let z : _≡_ {A = ℕ} 0 1 = cc in absurd (omega arith)
       by (message id p) w = let a = w .answer in let z : _≡_ {A = ℕ} 0 1 = cc in absurd (omega arith)
 
-  pub line-refused : (q : Refusal) (x : Reading) → Translates (lineOf line) buf (Refused₁ q) buf′
+  pub line-refused : (q : Refusal) (x : Reading) → Translates (lineOf line) stored buf (Refused₁ q) buf′
       → x ≡ Command (Refused q) 0
-      → ReadsLine (lineOf line) buf x buf′
+      → ReadsLine (lineOf line) stored buf x buf′
   line-refused q x w e = by (lineOf line) w
     where
-      by : (l : Line) → Translates l buf (Refused₁ q) buf′ → ReadsLine l buf x buf′
+      by : (l : Line) → Translates l stored buf (Refused₁ q) buf′ → ReadsLine l stored buf x buf′
       by blank w = let a = w .answer in let z : _≡_ {A = ℕ} 0 1 = cc in absurd (omega arith)
       by (refused r) w = let a = w .answer in let f : q ≡ r = cc in record { answer = e ∙ rw f; held = w .held }
       by (message id p) w = let a = w .answer in let z : _≡_ {A = ℕ} 0 1 = cc in absurd (omega arith)
 
   pub line-message : (i n : ℕ) (x : Reading) → length line ≤ length buf
-      → Translates (lineOf line) buf (Message i n) buf′
-      → x ≡ Command (commandOf i (take n buf′)) n → ReadsLine (lineOf line) buf x buf′
+      → Translates (lineOf line) stored buf (Message i n) buf′
+      → x ≡ Command (commandOf i (take n buf′)) n → ReadsLine (lineOf line) stored buf x buf′
   line-message i n x h w e = by (lineOf line) refl w
     where
-      by : (l : Line) → lineOf line ≡ l → Translates l buf (Message i n) buf′ → ReadsLine l buf x buf′
+      by : (l : Line) → lineOf line ≡ l → Translates l stored buf (Message i n) buf′ → ReadsLine l stored buf x buf′
       by blank q w = let a = w .answer in let z : _≡_ {A = ℕ} 0 1 = cc in absurd (omega arith)
       by (refused r) q w = let a = w .answer in let z : _≡_ {A = ℕ} 0 1 = cc in absurd (omega arith)
       by (message id p) q w =
@@ -119,7 +119,7 @@ module _ (m buf : Bytes) where
   unfolding decodedIn textLine
   text-long r e f =
       let k : leb 0 (length buf) ≡ true = le-leb 0 (length buf) (omega arith) in
-      record { answer = rw (e, k) f; left = rw (e, k) refl }
+      record { answer = rw (e, k) f; left = rw (e, k) (record { size = refl; same = λ q. refl }) }
 
   -- an empty one has none
   pub text-nil : (r : Reading) → length m ≡ 0 → r ≡ Command (Refused Room) 0 → ReadsIn Text m buf r buf
@@ -141,13 +141,14 @@ module _ (m buf : Bytes) where
         (omega (arith, front-length)) in
         record { answer = rw (f, k); left = rw (f, k) refl }
 
-    pub text-line : (r : Reading) (buf′ : Bytes) → n ≤ length buf → ReadsLine (lineOf (take n m)) buf r buf′
+    pub text-line : (r : Reading) (buf′ : Bytes) → n ≤ length buf
+        → ReadsLine (lineOf (take n m)) (storesLine (take n m)) buf r buf′
         → ReadsIn Text m buf r buf′
     unfolding decodedIn textLine
     text-line r buf′ h w =
         let k : leb (length (front m)) (length buf) ≡ true = le-leb (length (front m)) (length buf)
         (omega (arith, front-length)) in
-        record { answer = rw (f, k, ← e) (w .answer); left = rw (f, k, ← e) (w .held) }
+        record { answer = rw (f, k, ← e) (w .answer); left = rw (f, k, f, ← e) (w .held) }
 
 -- ---- by kind
 

@@ -52,7 +52,7 @@ text-payload m buf id p e h = by (endsLine (lastByte m)) e h
 
 payload-there : (k : Kind) (m buf buf′ : Bytes) (id : ℕ) (p : Bytes) → decodedIn k m ≡ message id p
     → roomIn k m ≤ length buf
-    → LeftIn k (message id p) buf buf′ → payloadIn k m buf′ (length p) ≡ p
+    → LeftIn k m (message id p) buf buf′ → payloadIn k m buf′ (length p) ≡ p
 unfolding decodedIn payloadIn
 payload-there Packets m buf buf′ id p e h l = rw (binary-payload 0 m id p e) (take-length p)
 payload-there Stream m buf buf′ id p e h l = let z : _≡_ {A = ℕ} 0 1 = cc in absurd (omega arith)
@@ -70,7 +70,7 @@ module _ (k : Kind) (m buf buf′ : Bytes) where
   unfolding meant
   read-in c n w = by (leb (roomIn k m) (length buf)) refl (w .answer) (w .left)
     where
-      said : (l : Line) → decodedIn k m ≡ l → roomIn k m ≤ length buf → Command c n ≡ answerOf l → LeftIn k l buf buf′
+      said : (l : Line) → decodedIn k m ≡ l → roomIn k m ≤ length buf → Command c n ≡ answerOf l → LeftIn k m l buf buf′
           → readingLine l ≡ meant (payloadIn k m buf′ n) c
       said blank e h a q = let z : _≡_ {A = ℕ} 0 1 = cc in absurd (omega arith)
       said (refused r) e h a q = let f : c ≡ Refused r = cc in rw f
@@ -80,7 +80,7 @@ module _ (k : Kind) (m buf buf′ : Bytes) where
           rw (f, g, payload-there k m buf buf′ id p e h q)
 
       by : (b : Bool) → leb (roomIn k m) (length buf) ≡ b → Command c n ≡ cond b (answerOf (decodedIn k m)) Short
-          → Left b k (decodedIn k m) buf buf′ → readingLine (decodedIn k m) ≡ meant (payloadIn k m buf′ n) c
+          → Left b k m (decodedIn k m) buf buf′ → readingLine (decodedIn k m) ≡ meant (payloadIn k m buf′ n) c
       by true e a q = said (decodedIn k m) refl (leb-true _ _ e) a q
       by false e a q = let z : _≡_ {A = ℕ} 0 1 = cc in absurd (omega arith)
 
@@ -90,7 +90,7 @@ module _ (k : Kind) (m buf buf′ : Bytes) where
   unfolding meant
   sound-in c n w a t = by (leb (roomIn k m) (length buf)) refl (w .answer) (w .left)
     where
-      said : (l : Line) → decodedIn k m ≡ l → roomIn k m ≤ length buf → Command c n ≡ answerOf l → LeftIn k l buf buf′
+      said : (l : Line) → decodedIn k m ≡ l → roomIn k m ≤ length buf → Command c n ≡ answerOf l → LeftIn k m l buf buf′
           → SoundAction (commandId a) (payloadIn k m buf′ n) a
       said blank e h x q = let z : _≡_ {A = ℕ} 0 1 = cc in absurd (omega arith)
       said (refused r) e h x q =
@@ -105,7 +105,7 @@ module _ (k : Kind) (m buf buf′ : Bytes) where
           rw (g, there) (record { identity = refl; content = b .content; fits = b .fits; fine = b .fine })
 
       by : (b : Bool) → leb (roomIn k m) (length buf) ≡ b → Command c n ≡ cond b (answerOf (decodedIn k m)) Short
-          → Left b k (decodedIn k m) buf buf′ → SoundAction (commandId a) (payloadIn k m buf′ n) a
+          → Left b k m (decodedIn k m) buf buf′ → SoundAction (commandId a) (payloadIn k m buf′ n) a
       by true e x q = said (decodedIn k m) refl (leb-true _ _ e) x q
       by false e x q = let z : _≡_ {A = ℕ} 0 1 = cc in absurd (omega arith)
 

@@ -1,6 +1,6 @@
 -- What the functions of the wire ensure.
 use mathlib.Core.Path.{_≡_}
-use mathlib.Core.Bool.{Bool, true, false, cond}
+use mathlib.Core.Bool.{Bool, true, false, cond, _&&_}
 use Prim.Native.Nat.{ℕ}
 use lib.Dec.{leb}
 use lib.ListN.{length, take, drop}
@@ -9,7 +9,7 @@ use Rattle.protocol.specs.declared.Kind.{Kind}
 use Rattle.protocol.specs.declared.Kind.the-variants.{Packets, Stream, Framed, Text}
 use Rattle.framing.specs.Framing.{kindOf, endsLine}
 use Rattle.text.specs.Line.{Line, blank, refused, message}
-use Rattle.text.specs.LinePost.{Held}
+use Rattle.text.specs.LinePost.{storesLine, Held}
 use Rattle.command.specs.declared.Command.the-variants.{Refused}
 use Rattle.command.specs.Commands.{commandOf}
 use Rattle.wire.specs.Received.{front, lastByte, decodedIn}
@@ -29,28 +29,32 @@ roomIn Stream m = 0
 roomIn Framed m = 0
 roomIn Text m = cond (endsLine (lastByte m)) (length (front m)) 0
 
--- what the buffer holds after a message that it has room for: only text alters it, and after a refusal what it holds
--- is open
-abbrev pub LeftIn : Kind → Line → Bytes → Bytes → Type 0
-LeftIn Packets l buf buf′ = buf′ ≡ buf
-LeftIn Stream l buf buf′ = buf′ ≡ buf
-LeftIn Framed l buf buf′ = buf′ ≡ buf
-LeftIn Text l buf buf′ = Held l buf buf′
+-- whether a refused text message can have stored a byte; an over-long line, which has no ending byte, stores none
+abbrev pub storesText : Bytes → Bool
+storesText m = endsLine (lastByte m) && storesLine (front m)
+
+-- what the buffer holds after a message that it has room for: packets and frames leave it as it was, and text leaves
+-- what its line does
+abbrev pub LeftIn : Kind → Bytes → Line → Bytes → Bytes → Type 0
+LeftIn Packets m l buf buf′ = buf′ ≡ buf
+LeftIn Stream m l buf buf′ = buf′ ≡ buf
+LeftIn Framed m l buf buf′ = buf′ ≡ buf
+LeftIn Text m l buf buf′ = Held l (storesText m) buf buf′
 
 -- the same by whether it has room
-abbrev pub Left : Bool → Kind → Line → Bytes → Bytes → Type 0
-Left true k l buf buf′ = LeftIn k l buf buf′
-Left false k l buf buf′ = buf′ ≡ buf
+abbrev pub Left : Bool → Kind → Bytes → Line → Bytes → Bytes → Type 0
+Left true k m l buf buf′ = LeftIn k m l buf buf′
+Left false k m l buf buf′ = buf′ ≡ buf
 
--- a line is answered, and its payload stands in the buffer
-pub record ReadsLine (l : Line) (buf : Bytes) (r : Reading) (buf′ : Bytes) : Type 0 where
+-- a line is answered, and what the buffer then holds
+pub record ReadsLine (l : Line) (stored : Bool) (buf : Bytes) (r : Reading) (buf′ : Bytes) : Type 0 where
   pub answer : r ≡ answerOf l
-  pub held : Held l buf buf′
+  pub held : Held l stored buf buf′
 
 -- a message of a kind is answered; a buffer without room for it is answered so and stays as it is
 pub record ReadsIn (k : Kind) (m buf : Bytes) (r : Reading) (buf′ : Bytes) : Type 0 where
   pub answer : r ≡ cond (leb (roomIn k m) (length buf)) (answerOf (decodedIn k m)) Short
-  pub left : Left (leb (roomIn k m) (length buf)) k (decodedIn k m) buf buf′
+  pub left : Left (leb (roomIn k m) (length buf)) k m (decodedIn k m) buf buf′
 
 -- the same, where the first byte of a stream decides
 abbrev pub Reads : Kind → Bytes → Bytes → Reading → Bytes → Type 0

@@ -1,13 +1,15 @@
 // The wire: the first message of an input cut and read, for packets, framed bytes and text alike.
 //
 // A caller cuts the first message, reads it with a lent buffer, and finds the payload of a command
-// in the message or in the buffer. A buffer as long as the message always has room.
+// in the message or in the buffer. A buffer as long as the message always has room: with such a one
+// `Reading::Short` is never the answer.
 ghost use mathlib.Core.Path.{_≡_};
 ghost use Prim.Native.Nat.{_≤_};
 ghost use lib.ListN.{length, take, drop};
 ghost use Rattle.framing.specs.Framing.{message};
 ghost use Rattle.wire.specs.Received.{binary};
 ghost use Rattle.text.specs.Line.{lineOf};
+ghost use Rattle.text.specs.LinePost.{storesLine};
 ghost use Rattle.command.specs.Commands.{commandOf};
 ghost use Rattle.wire.specs.Post.{answerOf, ReadsLine, ReadsIn, Reads, payloadPart};
 use command::Command;
@@ -15,8 +17,9 @@ use protocol::Kind;
 use protocol::Refusal;
 use text::Translated;
 
-// What a message is: a blank line; a text line longer than the lent buffer; or a command, which may
-// be a refusal, with the length of its payload.
+// What a message is: a blank line; a text line that is longer than the lent buffer, its ending byte
+// not counted; or a command, which may be a refusal, with the length of its payload, 0 where a
+// refused message has none.
 pub enum Reading {
     Blank,
     Short,
@@ -48,7 +51,7 @@ fn tail<'a>(s: &'a [u8], n: usize) -> &'a [u8]
     &s[k..]
 }
 
-// A refusal; its payload counts nothing.
+// The refusal of a message that has no payload.
 fn refused(r: Refusal) -> Reading
     ensures { λ x. ⌜ x ≡ Reading.Command (Command.Refused r) 0 ⌝ }
 {
@@ -74,10 +77,11 @@ fn read_buffer(id: u8, buf: &[u8], len: usize) -> Reading
     Reading::Command(command::read(id, p), len)
 }
 
-// A line without its ending byte, translated into the buffer, which has room for it.
+// A line without its ending byte, translated into the buffer, which has room for it. The buffer is
+// then as `text::translate` leaves it, also where the command of a translated line is refused.
 fn read_line(line: &[u8], buf: &mut [u8]) -> Reading
     requires { ⌜ length (now line) ≤ length (now buf) ⌝ }
-    ensures { λ r. ⌜ ReadsLine (lineOf (now (line .entry)))
+    ensures { λ r. ⌜ ReadsLine (lineOf (now (line .entry))) (storesLine (now (line .entry)))
         (now (buf .entry)) r (now (buf .exit)) ⌝ }
 {
     let t = text::translate(line, buf);
@@ -88,7 +92,8 @@ fn read_line(line: &[u8], buf: &mut [u8]) -> Reading
     }
 }
 
-// A text message: a line with its ending byte, or an over-long one without.
+// A text message: a line with its ending byte, or an over-long one without, which leaves the buffer
+// as it is.
 fn read_text(m: &[u8], buf: &mut [u8]) -> Reading
     ensures { λ r. ⌜ ReadsIn Kind.Text (now (m .entry)) (now (buf .entry)) r (now (buf .exit)) ⌝ }
 {
@@ -106,10 +111,17 @@ fn read_text(m: &[u8], buf: &mut [u8]) -> Reading
     refused(Refusal::Room)
 }
 
-// What a whole message is. A text line is translated into buf, and where buf is shorter than the
-// line the answer is `Short` and buf stays as it is; packets and frames leave buf alone. After a
-// text line that is refused, what buf holds is left open. A message that is no command is
-// `Command::Refused`: an unknown message, a bad parameter or no room, looked for in this order.
+// What a whole message is. A message that is no command is `Command::Refused`: an unknown message,
+// a bad parameter or no room, looked for in this order. The message is taken as it was cut: the two
+// length bytes of a frame are passed over, and all that stands behind them is its payload; of a
+// text line only the last byte is looked at for its end.
+//
+// A text line is translated into buf; the answer is `Short` exactly where buf is shorter than the
+// line, its ending byte not counted. buf stays as it is after a packet, a frame, an empty message,
+// an over-long line, a blank line and a `Short`. Where a line has an ID and a payload, the payload
+// stands at the start of buf, also where the command is then refused. A line that is refused before
+// that leaves buf as it is where it can store nothing, which `text::translate` tells; of any other
+// some fields may stand in buf, and what it holds is left open, but for its length.
 pub fn read(kind: Kind, message: &[u8], buf: &mut [u8]) -> Reading
     ensures { λ r. ⌜ Reads kind (now (message .entry)) (now (buf .entry)) r (now (buf .exit)) ⌝ }
 {

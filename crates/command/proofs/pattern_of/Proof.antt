@@ -1,5 +1,7 @@
 -- `command::pattern_of` looks for a NUL, then at the syntax, then at the length.
 use borrow.Author.Needs.{needs}
+use native.Mathlib.Omega.{arith}
+use lib.ListN.{length}
 use mathlib.Core.Path.{sym, _∙_}
 use borrow.Author.Tests.{le-leb, lt-leb}
 use Rattle.command.specs.Commands.{patternOf}
@@ -16,7 +18,7 @@ returns-2 c =
     rw (
       sym (c .before .before .before .before .has-nul .ensures) ∙ c .before .before .before .if1 .left,
       sym (c .before .before .is-valid .ensures) ∙ c .before .if2 .taken,
-      le-leb _ _ (c .if3 .taken),
+      le-leb (length (c .before .before .before .before .before .before .args .p .now)) 255 (omega arith),
     )
 
 returns-3 : tie.Need-returns-3
@@ -25,7 +27,7 @@ returns-3 c =
     rw (
       sym (c .before .before .before .before .has-nul .ensures) ∙ c .before .before .before .if1 .left,
       sym (c .before .before .is-valid .ensures) ∙ c .before .if2 .taken,
-      lt-leb _ _ (c .if3 .left),
+      lt-leb (length (c .before .before .before .before .before .before .args .p .now)) 255 (omega arith),
     )
 
 returns-4 : tie.Need-returns-4

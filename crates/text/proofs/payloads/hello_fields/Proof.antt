@@ -1,6 +1,6 @@
 -- `text::payloads::hello_fields`: a version, then a text.
 use native.Mathlib.Omega.{arith}
-use mathlib.Core.Path.{sym, _∙_}
+use mathlib.Core.Path.{refl, sym, _∙_}
 use lib.ListN.{drop}
 use Rattle.text.proofs.PayloadLaws.{hello-none, hello-version, hello-fault, hello-text, hello-more}
 use borrow.Author.Needs.{needs}
@@ -27,7 +27,10 @@ returns c = hello-none (drop (c .before .before .before .before .before .before 
     (c .before .before .put .ensures)
 
 returns-2 : tie.Need-returns-2
-returns-2 c = rw (c .enum-told2 .given .1) at (c .before .before .version-field .ensures)
+returns-2 c = record {
+  is = rw (c .enum-told2 .given .1) at (c .before .before .version-field .ensures);
+  same = λ e. refl;
+}
 
 returns-3 : tie.Need-returns-3
 returns-3 c = let p = rw (c .enum-told3 .given .1) at (c .before .before .before .before .next-field .ensures) in

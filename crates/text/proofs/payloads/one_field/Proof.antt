@@ -2,7 +2,7 @@
 use borrow.Author.Needs.{needs}
 use mathlib.Core.Path.{sym, _∙_}
 use lib.ListN.{drop}
-use Rattle.text.proofs.PayloadLaws.{nothing, pay-none, pay-bad, one-built, one-more}
+use Rattle.text.proofs.PayloadLaws.{nothing, fails-missing, fails-faulty, one-built, one-more}
 use Rattle.text.proofs.payloads.one_field.Statement.{statement}
 use Rattle.text.proofs.payloads.one_field.Tie as tie
 
@@ -20,13 +20,13 @@ returns c =
 returns-2 : tie.Need-returns-2
 returns-2 c =
     let p = rw (c .before .enum-told .given .1) at (c .before .before .before .before .before .next-field .ensures) in
-    rw (c .if1 .left) (pay-none _ _ _ (drop (c .before .before .before .before .before .before .before .before .before
-    .args .at) (c .before .before .before .before .before .before .before .before .before .args .line .now))
-    (p .0))
+    rw (c .if1 .left) (fails-missing _ _ (drop (c .before .before .before .before .before .before .before .before
+    .before .args .at) (c .before .before .before .before .before .before .before .before .before .args .line .now))
+    _ _ (p .0) (p .1))
 
 returns-3 : tie.Need-returns-3
 returns-3 c =
-    pay-bad _ _ _ (drop (c .before .before .before .before .before .before .before .before .args .at)
+    fails-faulty _ _ _ (drop (c .before .before .before .before .before .before .before .before .args .at)
     (c .before .before .before .before .before .before .before .before .args .line .now))
     (rw (c .enum-told2 .given .1) at (c .before .before .before .before .next-field .ensures))
 

@@ -1,7 +1,7 @@
 -- `text::payloads::write_fields`: a key without NUL, then what follows it.
 use native.Mathlib.Omega.{arith}
 use lib.ListN.{drop}
-use Rattle.text.proofs.PayloadLaws.{pay-none, pay-bad, write-nul, write-built, write-bad}
+use Rattle.text.proofs.PayloadLaws.{fails-missing, fails-faulty, write-nul, write-built, write-bad}
 use borrow.Author.Needs.{needs}
 use Rattle.text.proofs.payloads.write_fields.Statement.{statement}
 use Rattle.text.proofs.payloads.write_fields.Tie as tie
@@ -22,12 +22,13 @@ add-t17 c = let w = (rw (c .before .before .before .before .before .before .befo
     omega arith
 
 returns-2 : tie.Need-returns-2
-returns-2 c = pay-none _ _ _ (drop (c .before .before .before .before .before .before .before .before .args .at)
-    (c .before .before .before .before .before .before .before .before .args .line .now))
-    ((rw (c .enum-told .given .1) at (c .before .before .before .before .next-field .ensures)) .0)
+returns-2 c =
+    let p = rw (c .enum-told .given .1) at (c .before .before .before .before .next-field .ensures) in
+    fails-missing _ _ (drop (c .before .before .before .before .before .before .before .before .args .at)
+    (c .before .before .before .before .before .before .before .before .args .line .now)) _ _ (p .0) (p .1)
 
 returns-3 : tie.Need-returns-3
-returns-3 c = pay-bad _ _ _ (drop (c .before .before .before .before .before .before .before .before .args .at)
+returns-3 c = fails-faulty _ _ _ (drop (c .before .before .before .before .before .before .before .before .args .at)
     (c .before .before .before .before .before .before .before .before .args .line .now))
     (rw (c .enum-told2 .given .1) at (c .before .before .before .before .next-field .ensures))
 

@@ -15,7 +15,7 @@ array-share-prefix-word c = row-fits (c .before .before .before .args .i) (c .be
 slice-aggregate-is-word : tie.Need-slice-aggregate-is-word
 slice-aggregate-is-word c =
     let r = c .before .before .row-at .result in
-    sym (length-take-le (r .length) (r .word)
+    sym (length-take-le (r .len) (r .word)
     (row-fits (c .before .before .before .before .args .i) r (c .before .before .row-at .ensures)))
 
 returns : tie.Need-returns

@@ -4,4 +4,4 @@ pub mod Takes
 pub mod Commit
 pub mod Unbroken
 pub mod Guarantees
-pub mod Refusals
+pub mod Demand1

@@ -1,3 +1,3 @@
 pub mod Given
 pub mod Guarantee
-pub mod Refusal
+pub mod Demand1

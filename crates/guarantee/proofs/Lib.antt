@@ -5,3 +5,4 @@ pub mod Commit
 pub mod Unbroken
 pub mod Guarantees
 pub mod Demand1
+pub mod Demand2

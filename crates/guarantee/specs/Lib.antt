@@ -1,3 +1,4 @@
 pub mod Given
 pub mod Guarantee
 pub mod Demand1
+pub mod Demand2

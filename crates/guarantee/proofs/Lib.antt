@@ -6,3 +6,11 @@ pub mod Unbroken
 pub mod Guarantees
 pub mod Demand1
 pub mod Demand2
+pub mod Filled
+pub mod StoreBytes
+pub mod PatternBytes
+pub mod RecordingBytes
+pub mod QueueBytes
+pub mod SlotBytes
+pub mod MemoryBytes
+pub mod Premises

@@ -2,3 +2,4 @@ pub mod Given
 pub mod Guarantee
 pub mod Demand1
 pub mod Demand2
+pub mod Possible

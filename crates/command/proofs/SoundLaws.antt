@@ -1,6 +1,6 @@
 -- Every command that is read is sound (`reading-sound`): its payload is what came in, keys have no NUL, patterns are
--- good, and nothing is too long.
-use mathlib.Core.Path.{_≡_, refl, sym}
+-- good, and nothing is too long. A WRITE has the parts of its payload (`write-splits`).
+use mathlib.Core.Path.{_≡_, refl, sym, subst}
 use mathlib.Core.List.{[], _∷_, _++_, append-nil}
 use mathlib.Core.Bool.{Bool, true, false, cond}
 use Prim.Native.Nat.{ℕ, zero, suc, _+_, _-_, _≤_, _<_}
@@ -14,10 +14,13 @@ use Rattle.octets.specs.Octets.{Bytes, hasNul, firstNul}
 use Rattle.pattern.specs.Syntax.{valid}
 use Rattle.protocol.specs.declared.Refusal.the-variants.{Parameter, Room}
 use Rattle.protocol.specs.Terms.{payload, valueTail}
+use Rattle.command.specs.declared.Written.{Written}
 use Rattle.command.specs.declared.Written.the-variants.{Delete, Value}
 use Rattle.command.specs.declared.Command.{Command}
-use Rattle.command.specs.declared.Command.the-variants.{Hello, Sub, Unsub, Read, Write, Ping, Refused}
+use Rattle.command.specs.declared.Command.the-variants.{Hello, Sub, Unsub, Read, Write, Begin, Commit, Ping}
+use Rattle.command.specs.declared.Command.the-variants.{Refused}
 use Rattle.command.specs.Commands.{fitting, helloOf, patternOf, readOf, writtenOf, writeOf, emptyOf, commandOf}
+use Rattle.command.specs.Commands.{Splits}
 use Rattle.command.specs.Meaning.{meant, readingOf}
 use Rattle.command.specs.Sound.{GoodPattern, SoundReading}
 
@@ -132,3 +135,67 @@ reading-sound (suc (suc (suc (suc (suc (suc (suc zero))))))) p =
     fitting-sound 7 p Ping (λ h. record { identity = refl; content = refl; fits = h; fine = tt })
 reading-sound (suc (suc (suc (suc (suc (suc (suc (suc id)))))))) p =
     unknown-sound (suc (suc (suc (suc (suc (suc (suc (suc id)))))))) p (omega arith)
+
+-- ---- the parts of a WRITE
+
+-- a WRITE has the parts of its payload; nothing is asked of any other command
+abbrev Parted : Bytes → Command → Type 0
+Parted p Hello = Unit {0}
+Parted p Sub = Unit {0}
+Parted p Unsub = Unit {0}
+Parted p Read = Unit {0}
+Parted p (Write n w) = Splits p n w
+Parted p Begin = Unit {0}
+Parted p Commit = Unit {0}
+Parted p Ping = Unit {0}
+Parted p (Refused r) = Unit {0}
+
+module _ (p : Bytes) where
+  -- a command is as it was, or refused
+  parted-cond : (b : Bool) (c d : Command) → Parted p c → Parted p d → Parted p (cond b c d)
+  parted-cond true c d h k = h
+  parted-cond false c d h k = k
+
+  parted-fitting : (c : Command) → Parted p c → Parted p (fitting p c)
+  unfolding fitting
+  parted-fitting c h = parted-cond (leb (length p) 65535) c (Refused Room) h tt
+
+  parted-pattern : (c : Command) → Parted p c → Parted p (patternOf p c)
+  unfolding patternOf
+  parted-pattern c h =
+      parted-cond (hasNul p) (Refused Parameter) _ tt
+      (parted-cond (valid p) _ (Refused Parameter) (parted-cond (leb (length p) 255) c (Refused Room) h tt) tt)
+
+  parted-read : Parted p (readOf p)
+  unfolding readOf
+  parted-read = parted-cond (hasNul p) (Refused Parameter) _ tt (parted-fitting Read tt)
+
+  parted-write : Parted p (writeOf p)
+  unfolding writeOf
+  parted-write =
+      parted-fitting (Write (firstNul p) (writtenOf (firstNul p) (length p))) (record { key = refl; written = refl })
+
+parted-hello : (p : Bytes) → Parted p (helloOf p)
+unfolding helloOf
+parted-hello [] = tt
+parted-hello (v ∷ t) = parted-fitting (v ∷ t) Hello tt
+
+parted-empty : (p : Bytes) (c : Command) → Parted p c → Parted p (emptyOf p c)
+unfolding emptyOf
+parted-empty [] c h = h
+parted-empty (b ∷ p) c h = tt
+
+parted : (id : ℕ) (p : Bytes) → Parted p (commandOf id p)
+unfolding commandOf
+parted id p =
+    parted-cond p (eqb id 0) _ _ (parted-hello p)
+    (parted-cond p (eqb id 1) _ _ (parted-pattern p Sub tt)
+    (parted-cond p (eqb id 2) _ _ (parted-pattern p Unsub tt)
+    (parted-cond p (eqb id 3) _ _ (parted-read p)
+    (parted-cond p (eqb id 4) _ _ (parted-write p)
+    (parted-cond p (eqb id 5) _ _ (parted-empty p Begin tt)
+    (parted-cond p (eqb id 6) _ _ (parted-empty p Commit tt)
+    (parted-cond p (eqb id 7) _ _ (parted-fitting p Ping tt) tt)))))))
+
+pub write-splits : (id : ℕ) (p : Bytes) (n : ℕ) (w : Written) → commandOf id p ≡ Write n w → Splits p n w
+write-splits id p n w e = subst (Parted p) e (parted id p)

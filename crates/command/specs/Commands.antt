@@ -1,6 +1,7 @@
 -- A message's ID and payload as a command, or its refusal (document 01, "From bytes to one command", IDs, Payloads
 -- and Order): an unknown ID is refused first, then a bad parameter, then a payload that is too long. A WRITE's key
 -- and value are places of the payload.
+use mathlib.Core.Path.{_≡_}
 use mathlib.Core.List.{[], _∷_}
 use mathlib.Core.Bool.{cond}
 use Prim.Native.Nat.{ℕ, _+_, _-_}
@@ -37,6 +38,11 @@ readOf p = cond (hasNul p) (Refused Parameter) (fitting p Read)
 -- no NUL means delete; else the value is what follows the first NUL, which may be empty and may hold NULs
 unfoldable pub writtenOf : ℕ → ℕ → Written
 writtenOf n size = cond (ltb n size) (Value (n + 1) (size - (n + 1))) Delete
+
+-- the parts of a WRITE's payload: its key has n bytes, and w is what stands behind it
+pub record Splits (p : Bytes) (n : ℕ) (w : Written) : Type 0 where
+  pub key : n ≡ firstNul p
+  pub written : w ≡ writtenOf (firstNul p) (length p)
 
 -- WRITE is a key, then optionally NUL and a value
 unfoldable pub writeOf : Bytes → Command

@@ -3,7 +3,7 @@ ghost use mathlib.Core.Path.{_≡_};
 ghost use Prim.Native.Nat.{_+_, _≤_, _<_};
 ghost use lib.ListN.{length};
 ghost use Rattle.command.specs.Commands.{helloOf, patternOf, readOf, writtenOf, writeOf};
-ghost use Rattle.command.specs.Commands.{emptyOf, commandOf};
+ghost use Rattle.command.specs.Commands.{Splits, emptyOf, commandOf};
 ghost use Rattle.command.specs.Commands;
 use protocol::Refusal;
 
@@ -11,6 +11,12 @@ use protocol::Refusal;
 pub enum Written {
     Delete,
     Value { start: usize, len: usize },
+}
+
+// The parts of a WRITE's payload: its key is the first `key` bytes.
+pub struct Parts {
+    pub key: usize,
+    pub written: Written,
 }
 
 // A command, or why it is refused. A WRITE's key is the first `key` bytes of the payload.
@@ -94,13 +100,23 @@ fn written_of(p: &[u8], n: usize) -> Written
     }
 }
 
-// WRITE: a key, then nothing, or NUL and a value.
+// Splits the payload of a WRITE: a key, then nothing, or NUL and a value.
+pub fn split(p: &[u8]) -> Parts
+    ensures { λ r. ⌜ Splits (now (p .entry)) (r .key) (r .written) ⌝ }
+{
+    let key = octets::first_nul(p);
+    let written = written_of(p, key);
+    Parts { key, written }
+}
+
+// WRITE, by the parts of its payload.
 fn write_of(p: &[u8]) -> Command
     ensures { λ r. ⌜ r ≡ writeOf (now (p .entry)) ⌝ }
 {
-    let n = octets::first_nul(p);
-    let w = written_of(p, n);
-    fitting(p, Command::Write { key: n, written: w })
+    let parts = split(p);
+    let key = parts.key;
+    let written = parts.written;
+    fitting(p, Command::Write { key, written })
 }
 
 // c, BEGIN or COMMIT, for which a payload is a bad parameter.

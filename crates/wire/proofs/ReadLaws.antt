@@ -1,6 +1,6 @@
 -- What `read` answers is what the message says: a command with its payload (`read-command`), or a blank line
 -- (`read-blank`); a buffer as long as the message always has room (`read-short`). So `cut`, then `read`, gives
--- `received` (`read-received`).
+-- `received` (`read-received`). A WRITE that was read has the parts of its payload (`read-splits`).
 use mathlib.Core.Path.{_≡_, refl, sym, subst, _∙_}
 use mathlib.Core.List.{[], _∷_}
 use mathlib.Core.Bool.{Bool, true, false, cond}
@@ -13,8 +13,9 @@ use borrow.Author.Tests.{leb-true, leb-false}
 use Rattle.octets.specs.Octets.{Bytes}
 use Rattle.protocol.specs.declared.Kind.{Kind}
 use Rattle.protocol.specs.declared.Kind.the-variants.{Packets, Stream, Framed, Text}
+use Rattle.protocol.specs.declared.Refusal.{Refusal}
 use Rattle.protocol.specs.declared.Refusal.the-variants.{Room}
-use Rattle.protocol.specs.Terms.{Action, commandId, plain, command, invalid, whole}
+use Rattle.protocol.specs.Terms.{Action, commandId, plain, command, whole}
 use Rattle.protocol.specs.Terms as Terms
 use Rattle.framing.specs.Framing.{kindOf, endsLine, messageLength}
 use Rattle.framing.specs.Framing as Framing
@@ -22,11 +23,12 @@ use Rattle.framing.proofs.Laws.{lengthOf-le}
 use Rattle.text.specs.Line.{Line, blank, refused, message, lineOf}
 use Rattle.text.proofs.LengthLaws.{payload-length}
 use Rattle.command.specs.declared.Command.{Command as Command₁}
-use Rattle.command.specs.declared.Command.the-variants.{Refused}
-use Rattle.command.specs.Commands.{commandOf}
+use Rattle.command.specs.declared.Command.the-variants.{Write, Refused}
+use Rattle.command.specs.declared.Written.{Written}
+use Rattle.command.specs.Commands.{Splits, commandOf}
 use Rattle.command.specs.Meaning.{meant}
 use Rattle.command.specs.Sound.{SoundAction, SoundReading}
-use Rattle.command.proofs.SoundLaws.{reading-sound}
+use Rattle.command.proofs.SoundLaws.{reading-sound, write-splits}
 use Rattle.wire.specs.Received.{binary, front, lastByte, textLine, decodedIn, readingLine, reading, isWhole}
 use Rattle.wire.specs.Received.{received}
 use Rattle.wire.specs.Post.{answerOf, roomIn, LeftIn, Left, ReadsIn, Reads, payloadIn, payloadPart}
@@ -84,28 +86,23 @@ module _ (k : Kind) (m buf buf′ : Bytes) where
       by true e a q = said (decodedIn k m) refl (leb-true _ _ e) a q
       by false e a q = let z : _≡_ {A = ℕ} 0 1 = cc in absurd (omega arith)
 
-  -- a plain command that was read, with its payload
-  sound-in : (c : Command₁) (n : ℕ) → ReadsIn k m buf (Command c n) buf′ → (a : Action)
-      → meant (payloadIn k m buf′ n) c ≡ command (plain a) → SoundAction (commandId a) (payloadIn k m buf′ n) a
-  unfolding meant
-  sound-in c n w a t = by (leb (roomIn k m) (length buf)) refl (w .answer) (w .left)
+  -- what holds of every refusal, and of every command that an ID and a payload are, holds of what was read
+  command-in : (P : Bytes → Command₁ → Type 0) → ((p : Bytes) (r : Refusal) → P p (Refused r))
+      → ((id : ℕ) (p : Bytes) → P p (commandOf id p)) → (c : Command₁) (n : ℕ) → ReadsIn k m buf (Command c n) buf′
+      → P (payloadIn k m buf′ n) c
+  command-in P none each c n w = by (leb (roomIn k m) (length buf)) refl (w .answer) (w .left)
     where
       said : (l : Line) → decodedIn k m ≡ l → roomIn k m ≤ length buf → Command c n ≡ answerOf l → LeftIn k m l buf buf′
-          → SoundAction (commandId a) (payloadIn k m buf′ n) a
+          → P (payloadIn k m buf′ n) c
       said blank e h x q = let z : _≡_ {A = ℕ} 0 1 = cc in absurd (omega arith)
-      said (refused r) e h x q =
-          let f : c ≡ Refused r = cc in
-          let y : invalid r ≡ command (plain a) = rw f at t in
-          let z : _≡_ {A = ℕ} 0 1 = cc in absurd (omega arith)
+      said (refused r) e h x q = let f : c ≡ Refused r = cc in rw f (none (payloadIn k m buf′ n) r)
       said (message id p) e h x q =
           let f : c ≡ commandOf id p = cc in
           let g : n ≡ length p = cc in
-          let there = payload-there k m buf buf′ id p e h q in
-          let b : SoundAction id p a = subst (SoundReading id p) (rw (f, g, there) at t) (reading-sound id p) in
-          rw (g, there) (record { identity = refl; content = b .content; fits = b .fits; fine = b .fine })
+          rw (f, g, payload-there k m buf buf′ id p e h q) (each id p)
 
       by : (b : Bool) → leb (roomIn k m) (length buf) ≡ b → Command c n ≡ cond b (answerOf (decodedIn k m)) Short
-          → Left b k m (decodedIn k m) buf buf′ → SoundAction (commandId a) (payloadIn k m buf′ n) a
+          → Left b k m (decodedIn k m) buf buf′ → P (payloadIn k m buf′ n) c
       by true e x q = said (decodedIn k m) refl (leb-true _ _ e) x q
       by false e x q = let z : _≡_ {A = ℕ} 0 1 = cc in absurd (omega arith)
 
@@ -136,6 +133,30 @@ module _ (k : Kind) (m buf buf′ : Bytes) where
       by true e a = absurd (said (decodedIn k m) a)
       by false e a = leb-false _ _ e
 
+-- ---- what holds of a command and its payload
+
+-- a plain command is sound
+abbrev SoundPlain : Bytes → Command₁ → Type 0
+SoundPlain p c = (a : Action) → meant p c ≡ command (plain a) → SoundAction (commandId a) p a
+
+refused-sound : (p : Bytes) (r : Refusal) → SoundPlain p (Refused r)
+unfolding meant
+refused-sound p r a t = let z : _≡_ {A = ℕ} 0 1 = cc in absurd (omega arith)
+
+commandOf-sound : (id : ℕ) (p : Bytes) → SoundPlain p (commandOf id p)
+commandOf-sound id p a t =
+    let b : SoundAction id p a = subst (SoundReading id p) t (reading-sound id p) in
+    record { identity = refl; content = b .content; fits = b .fits; fine = b .fine }
+
+-- a WRITE has the parts of the payload
+abbrev SplitWrite : Bytes → Command₁ → Type 0
+SplitWrite p c = (i : ℕ) (w : Written) → c ≡ Write i w → Splits p i w
+
+refused-splits : (p : Bytes) (r : Refusal) → SplitWrite p (Refused r)
+refused-splits p r i w e = let z : _≡_ {A = ℕ} 0 1 = cc in absurd (omega arith)
+
+-- ---- a message that was cut
+
 pub roomIn-le : (k : Kind) (m : Bytes) → roomIn k m ≤ length m
 roomIn-le Packets m = omega arith
 roomIn-le Stream m = omega arith
@@ -158,7 +179,12 @@ module _ (k : Kind) {m buf buf′ : Bytes} where
   -- a plain command that was read is sound
   pub read-sound : {c : Command₁} {n : ℕ} → Reads k m buf (Command c n) buf′ → (a : Action)
       → meant (payloadPart k m buf′ n) c ≡ command (plain a) → SoundAction (commandId a) (payloadPart k m buf′ n) a
-  read-sound {c} {n} w = sound-in (kindOf k m) m buf buf′ c n w
+  read-sound {c} {n} w = command-in (kindOf k m) m buf buf′ SoundPlain refused-sound commandOf-sound c n w
+
+  -- a WRITE that was read has the parts of its payload
+  pub read-splits : {c : Command₁} {n : ℕ} → Reads k m buf (Command c n) buf′ → (i : ℕ) (w : Written) → c ≡ Write i w
+      → Splits (payloadPart k m buf′ n) i w
+  read-splits {c} {n} w = command-in (kindOf k m) m buf buf′ SplitWrite refused-splits write-splits c n w
 
   -- only a buffer without room for the message is too short
   pub read-no-room : Reads k m buf Short buf′ → length buf < roomIn (kindOf k m) m

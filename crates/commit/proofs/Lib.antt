@@ -1,3 +1,4 @@
+pub mod Parts
 pub mod Numbers
 pub mod Turns
 pub mod Steps

@@ -6,8 +6,10 @@ use mathlib.Core.Path.{_≡_}
 use mathlib.Core.List.{List}
 use mathlib.Core.Bool.{Bool, true, false}
 use lib.ListN.{length, take}
-use Rattle.octets.specs.Octets.{Bytes, firstNul}
+use Rattle.octets.specs.Octets.{Bytes}
 use Rattle.protocol.specs.Terms.{Action, sub}
+use Rattle.command.specs.declared.Written.{Written}
+use Rattle.command.specs.Commands.{Splits}
 use Rattle.server.specs.Store.{Store, lookup}
 use Rattle.server.specs.Patterns.{Patterns}
 use Rattle.server.specs.Step.{storeAfter, patternsAfter, refuses, storeAfterAll}
@@ -41,14 +43,8 @@ pub record Place (st : Bytes) (index : List ℕ) (r : Bytes) (at : ℕ) : Type 0
   pub indexed : Indexes (storeOf st) index
   pub until : Until r at
 
--- a store and a payload that a WRITE can have; its key has n bytes, and the key's row `old`, 0 where it is absent
-pub record Writing (st p : Bytes) (n old : ℕ) : Type 0 where
-  pub store-fine : storeFine st ≡ true
-  pub short : length p ≤ 65535
-  pub key : n ≡ firstNul p
-  pub row : old ≡ charge (take n p) (lookup (take n p) (storeOf st))
-
--- such a payload at an offset of a recording, with an index of the store and the tally of the store there
+-- a payload that a WRITE can have at an offset of a recording, with an index of the store and the tally of the store
+-- there
 pub record WriteTurn (st : Bytes) (index : List ℕ) (r : Bytes) (at : ℕ) (p : Bytes) (t : Tally) : Type 0 where
   pub place : Place st index r at
   pub short : length p ≤ 65535
@@ -87,9 +83,15 @@ pub record WriteTaken (S : ℕ) (p : Bytes) (s : Store) (t : Tally) : Type 0 whe
 pub record PatternTaken (id : ℕ) (p : Bytes) (t : Tally) (q q′ : Bytes) (r : Tally) : Type 0 where
   pub value : (S : ℕ) (s : Store) → TallyOf S s t → Taken S (actionOf id p) s q q′ r
 
--- whether a WRITE of the payload is refused, whatever the patterns are
-pub record WriteRefused (st p : Bytes) (b : Bool) : Type 0 where
-  pub value : (ps : Patterns) → b ≡ refuses (roomOf st) (writeFrom p) (storeOf st) ps
+-- the payload of a WRITE, by its parts and by the size of its key's row in the store, 0 where the key is absent
+pub record Writing (st p : Bytes) (n : ℕ) (w : Written) (old : ℕ) : Type 0 where
+  pub parts : Splits p n w
+  pub row : old ≡ charge (take n p) (lookup (take n p) (storeOf st))
+
+-- whether a WRITE is refused, for each payload that has these parts, whatever the patterns are
+pub record WriteRefused (st : Bytes) (n : ℕ) (w : Written) (old : ℕ) (b : Bool) : Type 0 where
+  pub value : (p : Bytes) → Writing st p n w old → (ps : Patterns)
+      → b ≡ refuses (roomOf st) (writeFrom p) (storeOf st) ps
 
 -- whether a SUB of the pattern is refused, whatever the store is
 pub record SubRefused (q p : Bytes) (b : Bool) : Type 0 where

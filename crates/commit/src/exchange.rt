@@ -1,38 +1,38 @@
-// The tally of a WRITE, on numbers alone: a body of the store is exchanged for another. A body that
-// is longer than its key is an entry, and charges 7 more than its length; any other is none.
+// The tally of a WRITE, on numbers alone: a row of the store is exchanged for another, by their
+// sizes. A size of 0 stands for no row.
 ghost use mathlib.Core.Path.{_≡_};
 ghost use Rattle.commit.specs.Tally.{less, More, Removable, Within, Exchangeable};
 use crate::Tally;
 
-// The tally without a body of `old` bytes.
-fn taken_out(t: Tally, key: usize, old: usize) -> Tally
-    requires { ⌜ Removable t key old ⌝ }
-    ensures { λ r. ⌜ r ≡ less t key old ⌝ }
+// The tally without a row of `old` bytes.
+fn taken_out(t: Tally, old: usize) -> Tally
+    requires { ⌜ Removable t old ⌝ }
+    ensures { λ r. ⌜ r ≡ less t old ⌝ }
 {
-    if key < old {
+    if old == 0 {
         return Tally {
             refused: false,
-            used: t.used - 7 - old,
-            count: t.count - 1,
+            used: t.used,
+            count: t.count,
         };
     }
     Tally {
         refused: false,
-        used: t.used,
-        count: t.count,
+        used: t.used - old,
+        count: t.count - 1,
     }
 }
 
-// The tally with a body of `new` bytes. It is refused where the charges would pass the room, or the
+// The tally with a row of `new` bytes. It is refused where the charges would pass the room, or the
 // entries 1,024.
-fn put_in(room: usize, t: Tally, key: usize, new: usize) -> Tally
-    requires { ⌜ Within room t new ⌝ }
-    ensures { λ r. ⌜ More room t key new r ⌝ }
+fn put_in(room: usize, t: Tally, new: usize) -> Tally
+    requires { ⌜ Within room t ⌝ }
+    ensures { λ r. ⌜ More room t new r ⌝ }
 {
-    if new <= key {
+    if new == 0 {
         return t;
     }
-    if room - t.used < new + 7 {
+    if room - t.used < new {
         return Tally {
             refused: true,
             used: t.used,
@@ -41,15 +41,15 @@ fn put_in(room: usize, t: Tally, key: usize, new: usize) -> Tally
     }
     Tally {
         refused: t.count == 1024,
-        used: t.used + (new + 7),
+        used: t.used + new,
         count: t.count + 1,
     }
 }
 
-// The tally with a body of `new` bytes in place of one of `old` bytes, of the same key.
-pub fn exchanged(room: usize, t: Tally, key: usize, old: usize, new: usize) -> Tally
-    requires { ⌜ Exchangeable room t key old new ⌝ }
-    ensures { λ r. ⌜ More room (less t key old) key new r ⌝ }
+// The tally with a row of `new` bytes in place of one of `old` bytes, of the same key.
+pub fn exchanged(room: usize, t: Tally, old: usize, new: usize) -> Tally
+    requires { ⌜ Exchangeable room t old ⌝ }
+    ensures { λ r. ⌜ More room (less t old) new r ⌝ }
 {
-    put_in(room, taken_out(t, key, old), key, new)
+    put_in(room, taken_out(t, old), new)
 }

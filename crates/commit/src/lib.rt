@@ -6,20 +6,22 @@
 // what a function requires is its callers' to show.
 mod exchange;
 
+use command::Written;
 use exchange::exchanged;
 ghost use mathlib.Core.Path.{_≡_};
 ghost use mathlib.Core.Bool.{true};
-ghost use Prim.Native.Nat.{_+_};
-ghost use lib.ListN.{drop};
+ghost use Prim.Native.Nat.{_+_, _≤_};
+ghost use lib.ListN.{length, drop};
 ghost use Rattle.server.specs.Turn.{valueAtTurn};
 ghost use Rattle.server.specs.Step.{refusesAny};
 ghost use Rattle.recording.specs.Command.{commandAt};
 ghost use Rattle.recording.specs.Region.{rowsOf, recorded};
 ghost use Rattle.recording.specs.Turn.{earlier};
 ghost use Rattle.store.specs.Region.{roomOf, storeOf};
-ghost use Rattle.store.specs.Operation.{body};
+ghost use Rattle.store.specs.Operation.{body, Replacement};
 ghost use Rattle.subscriptions.specs.Region.{patternsOf, subscriptionsFine};
-ghost use Rattle.commit.specs.Contracts.{storeBefore, Tried, Place, Writing};
+ghost use Rattle.commit.specs.Tally.{writtenSize, bodySize};
+ghost use Rattle.commit.specs.Contracts.{storeBefore, Tried, Place};
 ghost use Rattle.commit.specs.Contracts.{WriteTurn, PatternTurn, Turn};
 ghost use Rattle.commit.specs.Contracts.{WriteTaken, PatternTaken, Taken};
 ghost use Rattle.commit.specs.Contracts.{WriteRefused, SubRefused};
@@ -56,6 +58,28 @@ fn body_at_turn<'a>(
     body
 }
 
+// The size of the row that a WRITE leaves for its key, which has `key` bytes: 8 plus the lengths of
+// key and value, and 0 where it deletes the key.
+pub fn written_size(key: usize, written: Written) -> usize
+    requires { ⌜ writtenSize key written ≤ 65542 ⌝ }
+    ensures { λ n. ⌜ n ≡ writtenSize key written ⌝ }
+{
+    match written {
+        Written::Delete => 0,
+        Written::Value { start: _, len } => 8 + key + len,
+    }
+}
+
+// The size of the row that has this body, 7 more than the body; 0 where the body is empty.
+fn body_size(body: &[u8]) -> usize
+    ensures { λ n. ⌜ n ≡ bodySize (length (now (body .entry))) ⌝ }
+{
+    if body.len() == 0 {
+        return 0;
+    }
+    7 + body.len()
+}
+
 // The tally after the WRITE of a payload at the offset. A WRITE of the body that the key has
 // changes nothing; any other is refused if the store would break a limit.
 fn write_turn<'a>(
@@ -70,12 +94,16 @@ fn write_turn<'a>(
     ensures { λ r. ⌜ WriteTaken (roomOf (now (store .entry))) (now (payload .entry))
         (storeBefore (now (store .entry)) (now (recording .entry)) at) r ⌝ }
 {
-    let key = octets::first_nul(payload);
+    let parts = command::split(payload);
+    let key = parts.key;
+    let written = parts.written;
     let body = body_at_turn(store, index, recording, at, &payload[..key]);
     if octets::equal(body, payload) {
         return t;
     }
-    exchanged(store.len() - 8, t, key, body.len(), payload.len())
+    let old = body_size(body);
+    let new = written_size(key, written);
+    exchanged(store.len() - 8, t, old, new)
 }
 
 // Whether a SUB is refused: sixteen patterns are there, and it is none of them.
@@ -169,15 +197,11 @@ pub fn refuses_any<'a>(
     false
 }
 
-// Whether a WRITE of the payload is refused: the store after it would break a limit. The payload's
-// key has `key` bytes, and its row in the store `old`, 0 where it is absent. A deletion is never
-// refused.
-pub fn write_refused(store: &[u8], payload: &[u8], key: usize, old: usize) -> bool
-    requires { ⌜ Writing (now store) (now payload) key old ⌝ }
-    ensures { λ b. ⌜ WriteRefused (now (store .entry)) (now (payload .entry)) b ⌝ }
+// Whether a WRITE is refused: the store after it would break a limit. The key has `key` bytes, and
+// its row in the store `old`, 0 where it is absent. A deletion is never refused.
+pub fn write_refused(store: &[u8], key: usize, written: Written, old: usize) -> bool
+    requires { ⌜ Replacement (now store) old (writtenSize key written) ⌝ }
+    ensures { λ b. ⌜ WriteRefused (now (store .entry)) key written old b ⌝ }
 {
-    if payload.len() <= key {
-        return false;
-    }
-    !store::fits(store, old, 7 + payload.len())
+    !store::fits(store, old, written_size(key, written))
 }

@@ -5,15 +5,16 @@ use Prim.Native.Nat.{ℕ, _+_, _≤_}
 use lib.ListN.{length, take, drop}
 use Rattle.octets.specs.Octets.{Bytes, firstNul}
 use Rattle.protocol.specs.Terms.{Action, Message}
+use Rattle.command.specs.declared.Written.{Written}
+use Rattle.command.specs.Commands.{writtenOf}
 use Rattle.message.specs.Writing.{said}
 use Rattle.message.specs.declared.Message.the-variants.{Info}
 use Rattle.server.specs.Store.{Store, storeFits, changes}
 use Rattle.server.specs.Step.{storeAfter, refuses}
 use Rattle.store.specs.Row.{keyOf, bodyOf, rowFine}
 use Rattle.store.specs.Region.{storeFine}
-use Rattle.store.specs.Operation.{charge, Found}
-use Rattle.recording.specs.Command.{writeFrom, actionOf, commandFine}
-use Rattle.recording.specs.Turn.{valueIn}
+use Rattle.store.specs.Operation.{Found}
+use Rattle.recording.specs.Command.{valueBehind, keyIn, writeFrom, actionOf, commandFine}
 use Rattle.server.specs.Events.{onClient}
 use Rattle.slot.specs.Image.{owed, notified}
 use Rattle.memory.specs.Layout.{sizesOf, storePart}
@@ -40,28 +41,25 @@ pub record Writing (m p : Bytes) : Type 0 where
   pub short : length p ≤ 65535
   pub fits : storeFits (imageOf m .sizes .storeRoom) (storeAfter (writeFrom p) (imageOf m .store)) ≡ true
 
--- the key of a payload has n bytes, and its row is at a place of the store
-pub record KeyAt (st p : Bytes) (n at old : ℕ) : Type 0 where
+-- w stands behind the key of a payload, and the key's row is at a place of the store
+pub record KeyAt (st p : Bytes) (w : Written) (at old : ℕ) : Type 0 where
   pub fine : storeFine st ≡ true
-  pub key : n ≡ firstNul p
-  pub found : Found st (take n p) at old
+  pub written : w ≡ writtenOf (firstNul p) (length p)
+  pub found : Found st (keyIn p) at old
 
--- the turn of a WRITE, with the place of its key known
-pub record WritingAt (m p : Bytes) (n at old : ℕ) : Type 0 where
+-- the turn of a WRITE, with the parts of its payload and the place of its key known
+pub record WritingAt (m p : Bytes) (n : ℕ) (w : Written) (at old : ℕ) : Type 0 where
   pub writing : Writing m p
-  pub place : KeyAt (storePart (sizesOf m) m) p n at old
+  pub key : n ≡ firstNul p
+  pub place : KeyAt (storePart (sizesOf m) m) p w at old
 
 -- the turn of the WRITE is done, whichever slot it comes from
 abbrev pub Wrote : Bytes → Bytes → Bytes → Type 0
 Wrote p m m′ = (i : ℕ) → Becomes m m′ (afterTurn infod3 i (writeFrom p) (imageOf m))
 
--- whether a WRITE of the payload, whose key has n bytes, changes the store
-abbrev pub changedBy : Bytes → ℕ → Store → Bool
-changedBy p n s = changes (take n p) (valueIn (take n p) p) s
-
--- the size of the row that a WRITE of the payload, whose key has n bytes, leaves for the key: 0 where it deletes it
-abbrev pub writtenSize : Bytes → ℕ → ℕ
-writtenSize p n = charge (take n p) (valueIn (take n p) p)
+-- whether a WRITE of the payload changes the store
+abbrev pub changedBy : Bytes → Store → Bool
+changedBy p s = changes (keyIn p) (valueBehind (drop (firstNul p) p)) s
 
 -- ---- entries of the store
 

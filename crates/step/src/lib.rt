@@ -18,7 +18,7 @@ ghost use Rattle.service.specs.Turn.{afterTurn, settledImage};
 ghost use Rattle.step.specs.TurnParts.{Turning, EntryAt, entryKey, entryBody, entryInfo};
 ghost use Rattle.step.specs.TurnParts.{StoredAt, OwingIf, Copied, NotifyingAll};
 ghost use Rattle.step.specs.TurnParts.{Writing, KeyAt, WritingAt, Wrote, changedBy};
-ghost use Rattle.step.specs.TurnParts.{writtenSize};
+use command::Written;
 use message::Message;
 
 // The turn of a command with this ID and payload, which is not refused. What was an index of the
@@ -148,60 +148,56 @@ fn copy_body(mem: &[u8], at: usize, buf: &mut [u8]) -> usize
     body.len()
 }
 
-// WRITE: the place of its key is looked up, and it is done there. The index of the store is moved
-// with the rows behind that place.
+// WRITE, by its payload alone, as a recording has it: the payload is split, the place of its key is
+// looked up, and it is done there. The index of the store is moved with the rows behind that place.
 fn turn_write(mem: &mut [u8], p: &[u8], index: &mut [usize])
     requires { ⌜ (Writing (now mem) (now p)) × (Indexes (imageOf (now mem) .store) (now index)) ⌝ }
     ensures { λ _. ⌜ (Wrote (now (p .entry)) (now (mem .entry)) (now (mem .exit)))
         × (Indexes (imageOf (now (mem .exit)) .store) (now (index .exit))) ⌝ }
 {
-    let key = octets::first_nul(p);
+    let parts = command::split(p);
+    let key = parts.key;
+    let written = parts.written;
     let place = store::find(memory::store_part(&mem[..]), &index[..], &p[..key]);
     let at = place.at;
     let old = place.len;
-    write_at(mem, p, key, at, old);
-    store::move_index(index, at, old, written_size(p, key));
+    write_at(mem, p, key, written, at, old);
+    store::move_index(index, at, old, commit::written_size(key, written));
 }
 
-// The size of the row that the WRITE of a payload leaves for its key, which has `key` bytes: 0
-// where it deletes the key.
-fn written_size(p: &[u8], key: usize) -> usize
-    ensures { λ n. ⌜ n ≡ writtenSize (now (p .entry)) key ⌝ }
-{
-    if key < p.len() {
-        return 7 + p.len();
-    }
-    0
-}
-
-// A WRITE of a payload, whose key has `key` bytes. The key's row is at offset `at` and `old` bytes
-// long, 0 where the key is absent. If the value or presence of the key changes, the store is
-// changed, and each client with a matching pattern is owed one INFO.
-pub fn write_at(mem: &mut [u8], p: &[u8], key: usize, at: usize, old: usize)
-    requires { ⌜ WritingAt (now mem) (now p) key at old ⌝ }
+// A WRITE of a payload, by its parts. The key's row is at offset `at` and `old` bytes long, 0 where
+// the key is absent. If the value or presence of the key changes, the store is changed, and each
+// client with a matching pattern is owed one INFO.
+pub fn write_at(mem: &mut [u8], p: &[u8], key: usize, written: Written, at: usize, old: usize)
+    requires { ⌜ WritingAt (now mem) (now p) key written at old ⌝ }
     ensures { λ _. ⌜ Wrote (now (p .entry)) (now (mem .entry)) (now (mem .exit)) ⌝ }
 {
-    if is_unchanged(memory::store_part(&mem[..]), p, key, at, old) {
+    if is_unchanged(memory::store_part(&mem[..]), p, written, at, old) {
         return;
     }
-    if key < p.len() {
-        memory::write_at(mem, at, old, p, key);
-    } else {
-        memory::delete_at(mem, at, old);
+    match written {
+        Written::Delete => memory::delete_at(mem, at, old),
+        Written::Value { start: _, len: _ } => memory::write_at(mem, at, old, p, key),
     }
     notify_all(mem, p, key);
 }
 
-// Whether the WRITE of a payload leaves the store as it is: the entry has this value already, or
-// there is none to delete.
-fn is_unchanged(store: &[u8], p: &[u8], key: usize, at: usize, old: usize) -> bool
-    requires { ⌜ KeyAt (now store) (now p) key at old ⌝ }
-    ensures { λ b. ⌜ b ≡ not (changedBy (now (p .entry)) key (storeOf (now (store .entry)))) ⌝ }
+// Whether the WRITE of a payload leaves the store as it is: there is no entry to delete, or the
+// entry has this value already. Both values start behind the same key, at the same place.
+fn is_unchanged(store: &[u8], p: &[u8], written: Written, at: usize, old: usize) -> bool
+    requires { ⌜ KeyAt (now store) (now p) written at old ⌝ }
+    ensures { λ b. ⌜ b ≡ not (changedBy (now (p .entry)) (storeOf (now (store .entry)))) ⌝ }
 {
-    if old == 0 {
-        return p.len() <= key;
+    match written {
+        Written::Delete => old == 0,
+        Written::Value { start, len: _ } => {
+            if old == 0 {
+                return false;
+            }
+            let body = store::body_at(store, at);
+            octets::equal(&p[start..], &body[start..])
+        }
     }
-    octets::equal(store::body_at(store, at), p)
 }
 
 // Owes each client with a pattern for the key one INFO of the body.

@@ -1,26 +1,29 @@
--- A deletion is never refused; any other WRITE is where its row does not fit in place of the key's.
-use mathlib.Core.Path.{subst, sym, ap}
-use mathlib.Core.Bool.{Bool, not}
-use native.Mathlib.Omega.{arith}
-use borrow.Author.Needs.{needs}
+-- The test on the sizes of the rows is the simple server's test of the store after the WRITE.
+use mathlib.Core.Path.{subst, sym, ap, _∙_}
+use mathlib.Core.Bool.{not}
+use Prim.Native.Nat.{ℕ}
+use Rattle.store.specs.Operation.{storeFitsWith, Replacement}
 use Rattle.commit.specs.Contracts.{WriteRefused}
-use Rattle.commit.proofs.Plain.{replacement, refuses-some, refuses-none}
+use Rattle.commit.proofs.Plain.{refused-by-size}
 use Rattle.commit.proofs.write_refused.Statement.{statement}
 use Rattle.commit.proofs.write_refused.Tie as tie
 
-returns : tie.Need-returns
-returns c = refuses-none (c .before .before .before .pre) (c .if1 .taken)
-
 fits-requires : tie.Need-fits-requires
 fits-requires c κs =
-    let h = c .before .before .before .pre in
-    replacement h (omega (arith, h .short))
+    let start = c .before .before in
+    subst (λ (n : ℕ). Replacement (start .args .store .now) (start .args .old) n) (sym (c .written-size .ensures))
+    (start .pre)
 
-returns-2 : tie.Need-returns-2
-returns-2 c =
-    let start = c .before .before .before .before in
-    subst (λ (b : Bool). WriteRefused (start .args .store .now) (start .args .payload .now) b)
-    (ap not (sym (c .fits2 .ensures))) (refuses-some (start .pre) (c .before .if1 .left))
+returns : tie.Need-returns
+returns c =
+    let size = c .before in
+    let start = size .before .before in
+    let A = start .args in
+    subst (WriteRefused (A .store .now) (A .key) (A .written) (A .old))
+    (ap not
+    (sym (c .fits2 .ensures ∙ ap (storeFitsWith (A .store .now) (A .old)) (size .written-size .ensures))))
+    (refused-by-size (start .pre .fine))
 
 pub write-refused-spec : {M : Type 1} → statement M
-write-refused-spec = tie.close (tie.spec returns (λ c. search needs) fits-requires returns-2)
+write-refused-spec =
+    tie.close (tie.spec (λ c κs. c .before .pre .new-short) fits-requires returns)

@@ -4,19 +4,18 @@ use lib.Seq.{length-take-le}
 use borrow.Author.Needs.{needs}
 use Rattle.memory.specs.Image.{imageOf}
 use Rattle.step.specs.TurnParts.{WritingAt}
-use Rattle.step.proofs.Writes.{write-within}
-use Rattle.step.proofs.Indexing.{write-movable, write-indexed}
+use Rattle.commit.proofs.Parts.{splits-within}
+use Rattle.step.proofs.Indexing.{write-short, write-movable, write-indexed}
 use Rattle.step.proofs.turn_write.Statement.{statement}
 use Rattle.step.proofs.turn_write.Tie as tie
 
-abbrev start : tie.After-first-nul → tie.Start
+abbrev start : tie.After-split → tie.Start
 start c = c .before .before .before .before
 
 slice-aggregate-find : tie.Need-slice-aggregate-find
 slice-aggregate-find c =
-    let first = c .before .before .before .before in
-    let begin = start first in
-    sym (length-take-le _ (begin .args .p .now) (write-within (begin .pre .0) (first .first-nul .ensures)))
+    let at-split = c .before .before .before .before in
+    sym (length-take-le _ (start at-split .args .p .now) (splits-within (at-split .split .ensures)))
 
 find-requires : tie.Need-find-requires
 unfolding imageOf
@@ -25,31 +24,39 @@ find-requires c κs =
     let h = start (part .before .before) .pre in
     rw (part .store-part .ensures) (h .0 .sound .store, h .1)
 
-abbrev begun : tie.After-find → tie.After-first-nul
-begun c = c .before .before .before .before .before
+abbrev splitting : tie.After-find → tie.After-split
+splitting c = c .before .before .before .before .before
 
--- the place of the key is known
+-- the parts and the place of the key are known
 placed : (c : tie.After-find)
-    → WritingAt (start (begun c) .args .mem .now) (start (begun c) .args .p .now) (begun c .first-nul .result)
+    → WritingAt (start (splitting c) .args .mem .now) (start (splitting c) .args .p .now)
+    (splitting c .split .result .key) (splitting c .split .result .written)
     (c .find .result .at) (c .find .result .len)
 placed c =
-    let h = start (begun c) .pre .0 in
+    let h = start (splitting c) .pre .0 in
+    let s = splitting c .split .ensures in
     record {
       writing = h;
+      key = s .key;
       place = record {
         fine = h .sound .store;
-        key = begun c .first-nul .ensures;
-        found = rw (c .before .before .before .store-part .ensures) at (c .find .ensures);
+        written = s .written;
+        found = rw (← (s .key)) (rw (c .before .before .before .store-part .ensures) at (c .find .ensures));
       };
     }
 
 write-at-requires : tie.Need-write-at-requires
 write-at-requires c κs = placed (c .before)
 
+written-size-requires : tie.Need-written-size-requires
+written-size-requires c κs =
+    let found = c .before .before .before .before .before in
+    write-short (placed found) (start (splitting found) .pre .1)
+
 move-index-requires : tie.Need-move-index-requires
 move-index-requires c κs =
     let found = c .before .before .before .before .before .before in
-    write-movable (placed found) (start (begun found) .pre .1) (c .written-size .ensures)
+    write-movable (placed found) (start (splitting found) .pre .1) (c .written-size .ensures)
 
 returns : tie.Need-returns
 returns c =
@@ -57,7 +64,7 @@ returns c =
     let size = moved .before in
     let write = size .before .before .before .before in
     let found = write .before .before in
-    write-indexed (placed found) (start (begun found) .pre .1) (size .written-size .ensures)
+    write-indexed (placed found) (start (splitting found) .pre .1) (size .written-size .ensures)
     (moved .move-index .ensures) (write .write-at .ensures)
 
 pub turn-write-spec : {M : Type 1} → statement M
@@ -69,7 +76,7 @@ turn-write-spec =
     slice-aggregate-find
     find-requires
     write-at-requires
-    (λ c κs. search needs)
+    written-size-requires
     move-index-requires
     (λ c. search needs)
     (λ c. search needs)

@@ -7,7 +7,7 @@ use Rattle.commit.proofs.exchange.exchanged.Tie as tie
 put-in-requires : tie.Need-put-in-requires
 put-in-requires c κs =
     let A = c .before .args in
-    rw (c .taken-out .ensures) (less-within (A .t) (A .key) (A .old) (A .room) (A .new) (c .before .pre .within))
+    rw (c .taken-out .ensures) (less-within (A .t) (A .old) (A .room) (c .before .pre .within))
 
 returns : tie.Need-returns
 returns c = rw (c .before .taken-out .ensures) at (c .put-in .ensures)

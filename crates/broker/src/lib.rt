@@ -15,13 +15,13 @@ ghost use mathlib.Core.Option.{some};
 ghost use Prim.Native.Nat.{_≤_};
 ghost use lib.ListN.{length};
 ghost use Rattle.wire.specs.Received.{isWhole};
-ghost use Rattle.server.specs.State.{slotAt};
+ghost use Rattle.model.specs.State.{slotAt};
 ghost use Rattle.memory.specs.Image.{isUsed, imageOf};
 ghost use Rattle.memory.specs.Rules.{Sound};
 ghost use Rattle.infod3.specs.Infod3.{infod3};
-ghost use Rattle.server.specs.Decision.{opens, feeds, closes};
-ghost use Rattle.server.specs.Calls.{kindOf};
-ghost use Rattle.service.specs.Contracts.{Serves, Takes};
+ghost use Rattle.model.specs.Decision.{opens, feeds, closes};
+ghost use Rattle.model.specs.Calls.{kindOf};
+ghost use Rattle.refinement.specs.Contracts.{Serves, Takes};
 use protocol::Kind;
 
 // What a call gives back: its answer, and the bytes consumed by a feed or written by a take. Beside

@@ -6,7 +6,7 @@ use lib.ListN.{length}
 use Rattle.octets.specs.Octets.{Bytes, hasNul}
 use Rattle.pattern.specs.Syntax as Syntax
 use Rattle.protocol.specs.Terms.{Action, hello, sub, unsub, read, write, ping, begin, commit, plain, payload}
-use Rattle.protocol.specs.Terms.{commandId}
+use Rattle.protocol.specs.Terms.{actionId}
 use Rattle.protocol.specs.Terms.{Reading, blank, command, invalid}
 
 -- a pattern without NUL, valid, of at most 255 bytes
@@ -26,7 +26,7 @@ Fine (ping i) = Unit {0}
 
 -- a command that was read from this ID and payload: both are its own, and the payload is not too long
 pub record SoundAction (id : ℕ) (p : Bytes) (a : Action) : Type 0 where
-  pub identity : commandId a ≡ id
+  pub identity : actionId a ≡ id
   pub content : payload a ≡ p
   pub fits : length p ≤ 65535
   pub fine : Fine a

@@ -5,7 +5,7 @@ use Prim.Native.Nat.{ℕ, zero, suc, _+_, _-_, _≤_, _<_}
 use native.Mathlib.Omega.{arith}
 use lib.Dec.{leb, eqb}
 use borrow.Author.Tests.{le-leb, lt-leb, leb-true, leb-false, ne-eqb, eq-eqb}
-use Rattle.server.proofs.Tests.{either, never}
+use Rattle.model.proofs.Tests.{either, never}
 use Rattle.store.proofs.Split.{rowCount-some}
 use Rattle.commit.specs.declared.Tally.{Tally}
 use Rattle.commit.specs.Tally.{bodySize, less, More, Within}

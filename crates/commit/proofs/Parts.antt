@@ -13,7 +13,7 @@ use Rattle.command.specs.declared.Written.{Written}
 use Rattle.command.specs.declared.Written.the-variants.{Delete, Value}
 use Rattle.command.specs.Commands.{Splits}
 use Rattle.command.proofs.Laws.{Behind, splits-behind}
-use Rattle.recording.specs.Command.{valueBehind}
+use Rattle.recording.specs.Encoding.{valueBehind}
 use Rattle.store.specs.Operation.{charge}
 use Rattle.commit.specs.Tally.{writtenSize}
 

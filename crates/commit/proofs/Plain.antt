@@ -6,9 +6,9 @@ use native.Mathlib.Omega.{arith}
 use lib.ListN.{length, take, drop}
 use Rattle.octets.specs.Octets.{Bytes}
 use Rattle.command.specs.declared.Written.{Written}
-use Rattle.server.specs.Store.{storeCharge, storeAfterWrite, storeFits}
-use Rattle.server.specs.Step.{refuses}
-use Rattle.recording.specs.Command.{valueBehind, writeFrom}
+use Rattle.model.specs.Store.{storeCharge, storeAfterWrite, storeFits}
+use Rattle.model.specs.Step.{refuses}
+use Rattle.recording.specs.Encoding.{valueBehind, writeFrom}
 use Rattle.store.specs.Region.{roomOf, storeFine, storeOf}
 use Rattle.store.specs.Operation.{lower, Found, storeFitsWith, Replacement}
 use Rattle.store.proofs.Region.{ascending-storeOf, charge-storeOf, length-storeOf}

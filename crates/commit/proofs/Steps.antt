@@ -1,4 +1,4 @@
--- The other commands tried out, and the walk over all of a recording.
+-- The other actions tried out, and the walk over all of a recording.
 use mathlib.Core.Path.{_≡_, refl, sym, ap, _∙_}
 use mathlib.Core.List.{List, [], _∷_, _++_}
 use mathlib.Core.Bool.{Bool, true, false, not}
@@ -13,22 +13,22 @@ use Rattle.octets.specs.Octets.{Bytes}
 use Rattle.octets.specs.Part.{part}
 use Rattle.octets.specs.Number.{numberAt}
 use Rattle.octets.proofs.Parts.{length-part}
-use Rattle.protocol.specs.Terms.{Action, hello, sub, unsub, read, ping, commandId, payload}
-use Rattle.server.specs.Store.{Store, lookup, storeCharge, storeFits}
-use Rattle.server.specs.Patterns.{Patterns, held, addPattern, removePattern}
-use Rattle.server.specs.Step.{storeAfter, patternsAfter, refuses, storeAfterAll, refusesAny}
-use Rattle.server.specs.Turn.{valueAtTurn}
-use Rattle.server.specs.Invariant.{Ascending}
-use Rattle.server.proofs.Tests.{either, never}
-use Rattle.server.proofs.Steps.{storeAfterAll-append, ascending-storeAfterAll, lookup-storeAfterAll}
-use Rattle.server.proofs.Subscriptions.{countOf, length-addPattern}
-use Rattle.recording.specs.Command.{actionOf, writeFrom, commandFine, rowSize, rowPayload, commandAt}
+use Rattle.protocol.specs.Terms.{Action, hello, sub, unsub, read, ping, actionId, payload}
+use Rattle.model.specs.Store.{Store, lookup, storeCharge, storeFits}
+use Rattle.model.specs.Patterns.{Patterns, held, addPattern, removePattern}
+use Rattle.model.specs.Step.{storeAfter, patternsAfter, refuses, storeAfterAll, refusesAny}
+use Rattle.model.specs.Turn.{valueAtTurn}
+use Rattle.model.specs.Invariant.{Ascending}
+use Rattle.model.proofs.Tests.{either, never}
+use Rattle.model.proofs.Steps.{storeAfterAll-append, ascending-storeAfterAll, lookup-storeAfterAll}
+use Rattle.model.proofs.Subscriptions.{countOf, length-addPattern}
+use Rattle.recording.specs.Encoding.{actionOf, writeFrom, actionFine, rowSize, rowPayload, actionAt}
 use Rattle.recording.specs.Region.{rowsOf, recorded}
 use Rattle.recording.specs.Turn.{earlier}
 use Rattle.recording.specs.Contracts.{RowAt}
-use Rattle.recording.proofs.Commands.{payload-actionOf, commandId-actionOf}
+use Rattle.recording.proofs.Encodings.{payload-actionOf, actionId-actionOf}
 use Rattle.recording.proofs.Packed.{rowFine-whole}
-use Rattle.recording.proofs.Walks.{Walk, row-here, walk-start, walk-row, walk-command, walk-next, walk-earlier}
+use Rattle.recording.proofs.Walks.{Walk, row-here, walk-start, walk-row, walk-action, walk-next, walk-earlier}
 use Rattle.store.specs.Region.{usedOf as storeUsed, countOf as storeCount, roomOf, storeFine, storeOf}
 use Rattle.store.specs.Operation.{body}
 use Rattle.store.proofs.Region.{represents, ascending-storeOf, charge-storeOf, length-storeOf}
@@ -71,9 +71,9 @@ pub sub-room : (q p : Bytes) (b : Bool) → SubRefused q p b → b ≡ false →
 unfolding refuses
 sub-room q p b h e = ltb-false 16 (length (addPattern p (patternsOf q))) (sym (h .value 0 []) ∙ e)
 
--- ---- a command that leaves the store
+-- ---- an action that leaves the store
 
--- such a command is not refused, and the region holds the patterns after it
+-- such an action is not refused, and the region holds the patterns after it
 pub taken-kept : (S : ℕ) (a : Action) (s : Store) (q q′ : Bytes) (t : Tally) → TallyOf S s t
     → refuses S a s (patternsOf q) ≡ false → storeAfter a s ≡ s
     → patternsOf q′ ≡ patternsAfter true a (patternsOf q) → subscriptionsFine q′ ≡ true → Taken S a s q q′ t
@@ -124,40 +124,40 @@ other-taken id p q t f n₁ n₂ n₄ =
           (λ e. rw (e₀, e) (taken-kept S (ping p) s q q t g refl refl refl f))));
     }
 
--- ---- a command's row
+-- ---- an action's row
 
 module _ (r : Bytes) (at : ℕ) (h : RowAt r at) (id : ℕ) (p : Bytes) where
   abbrev row : Bytes
   row = drop at (rowsOf r)
 
-  -- the ID and the payload of a row are all of its command
-  pub row-command : id ≡ commandId (commandAt row) → p ≡ payload (commandAt row) → commandAt row ≡ actionOf id p
-  row-command i b =
+  -- the ID and the payload of a row are all of its action
+  pub row-action : id ≡ actionId (actionAt row) → p ≡ payload (actionAt row) → actionAt row ≡ actionOf id p
+  row-action i b =
       let m = row-here r at h in
       m .command
       ∙ ap (λ (n : ℕ). actionOf n (part r (16 + at) (numberAt 3 r (13 + at)))) (m .id ∙ sym i)
       ∙ ap (actionOf id) (m .body ∙ sym b)
 
-  pub row-known : id ≡ commandId (commandAt row) → p ≡ payload (commandAt row) → commandFine id (length p) ≡ true
-  unfolding commandAt rowPayload rowSize
+  pub row-known : id ≡ actionId (actionAt row) → p ≡ payload (actionAt row) → actionFine id (length p) ≡ true
+  unfolding actionAt rowPayload rowSize
   row-known i b =
       let w = rowFine-whole row (h .here) in
       let n : ℕ = numberAt 3 row 1 in
       let l : length p ≡ n =
       ap length (b ∙ payload-actionOf (getD row 0 0) (part row 4 n)) ∙ length-part row 4 n (w .fits) in
-      let j : id ≡ getD row 0 0 = i ∙ commandId-actionOf (getD row 0 0) (part row 4 n) n (w .known) in
+      let j : id ≡ getD row 0 0 = i ∙ actionId-actionOf (getD row 0 0) (part row 4 n) n (w .known) in
       rw (l, j) (w .known)
 
-  pub row-write : id ≡ 4 → id ≡ commandId (commandAt row) → p ≡ payload (commandAt row) → commandAt row ≡ writeFrom p
+  pub row-write : id ≡ 4 → id ≡ actionId (actionAt row) → p ≡ payload (actionAt row) → actionAt row ≡ writeFrom p
   unfolding actionOf
-  row-write e i b = row-command i b ∙ ap (λ (n : ℕ). actionOf n p) e
+  row-write e i b = row-action i b ∙ ap (λ (n : ℕ). actionOf n p) e
 
-pub write-short : (id n : ℕ) → id ≡ 4 → commandFine id n ≡ true → n ≤ 65535
-unfolding commandFine
+pub write-short : (id n : ℕ) → id ≡ 4 → actionFine id n ≡ true → n ≤ 65535
+unfolding actionFine
 write-short id n e h = leb-true n 65535 (rw e at h)
 
-pub sub-short : (id n : ℕ) → id ≡ 1 → commandFine id n ≡ true → n ≤ 255
-unfolding commandFine
+pub sub-short : (id n : ℕ) → id ≡ 1 → actionFine id n ≡ true → n ≤ 255
+unfolding actionFine
 sub-short id n e h = leb-true n 255 (rw e at h)
 
 pub turn-place : {st : Bytes} {index : List ℕ} {r : Bytes} {at : ℕ} {q : Bytes} {t : Tally}
@@ -200,8 +200,8 @@ tally-start st used count f u n =
 
 -- ---- the walk
 
--- i commands were tried out and none is refused; the next row is at the offset; t is the tally of the store there, and
--- q holds the patterns; the commit is refused exactly when one of the other commands is
+-- i actions were tried out and none is refused; the next row is at the offset; t is the tally of the store there, and
+-- q holds the patterns; the commit is refused exactly when one of the other actions is
 pub record Trying (st r q₀ : Bytes) (t : Tally) (at i : ℕ) (q : Bytes) : Type 0 where
   pub walk : Walk r at i
   pub tally : TallyOf (roomOf st) (storeBefore st r at) t
@@ -230,14 +230,14 @@ module _ (st : Bytes) {index : List ℕ} (r q₀ : Bytes) (t : Tally) (at i : �
       }
 
   abbrev action : Action
-  action = commandAt (drop at (rowsOf r))
+  action = actionAt (drop at (rowsOf r))
 
   others : drop i (recorded r) ≡ action ∷ drop (suc i) (recorded r)
   others =
       drop-cons (recorded r) i (ping []) l
-      ∙ ap (λ (a : Action). a ∷ drop (suc i) (recorded r)) (walk-command r at i (h .walk) (ping []) l)
+      ∙ ap (λ (a : Action). a ∷ drop (suc i) (recorded r)) (walk-action r at i (h .walk) (ping []) l)
 
-  -- the store at the next turn is the one after this command
+  -- the store at the next turn is the one after this action
   store-next : storeBefore st r (at + rowSize (drop at (rowsOf r))) ≡ storeAfter action (storeBefore st r at)
   unfolding storeBefore storeAfterAll
   store-next =
@@ -246,7 +246,7 @@ module _ (st : Bytes) {index : List ℕ} (r q₀ : Bytes) (t : Tally) (at i : �
       walk-earlier r (at + rowSize (drop at (rowsOf r))) (i + 1) w
       ∙ ap (λ (n : ℕ). take n (recorded r)) (add-one i)
       ∙ take-suc (recorded r) i (ping []) l
-      ∙ rw (← walk-earlier r at i (h .walk), walk-command r at i (h .walk) (ping []) l) in
+      ∙ rw (← walk-earlier r at i (h .walk), walk-action r at i (h .walk) (ping []) l) in
       rw e (storeAfterAll-append (earlier r at) (action ∷ []) (storeOf st))
 
   module _ (t′ : Tally) (q′ : Bytes) (g : Taken (roomOf st) action (storeBefore st r at) q q′ t′) where

@@ -11,14 +11,14 @@ use lib.Seq.{length-take-le}
 use borrow.Author.Tests.{leb-true, not-false}
 use Rattle.octets.specs.Octets.{Bytes}
 use Rattle.protocol.specs.Terms.{Action, payload, valueTail}
-use Rattle.server.specs.Store.{Store, lookup, storeAfterWrite, storeCharge, storeFits}
-use Rattle.server.specs.Patterns.{Patterns}
-use Rattle.server.specs.Step.{storeAfter, patternsAfter, refuses}
-use Rattle.server.specs.Turn.{foundOr, lastWrite, valueAtTurn}
-use Rattle.server.specs.Invariant.{Ascending}
-use Rattle.server.proofs.Tests.{and-left, and-right}
-use Rattle.server.proofs.Charges.{valueCharge, valueCount, storeAfterWrite-differs}
-use Rattle.recording.specs.Command.{valueBehind, writeFrom}
+use Rattle.model.specs.Store.{Store, lookup, storeAfterWrite, storeCharge, storeFits}
+use Rattle.model.specs.Patterns.{Patterns}
+use Rattle.model.specs.Step.{storeAfter, patternsAfter, refuses}
+use Rattle.model.specs.Turn.{foundOr, lastWrite, valueAtTurn}
+use Rattle.model.specs.Invariant.{Ascending}
+use Rattle.model.proofs.Tests.{and-left, and-right}
+use Rattle.model.proofs.Charges.{valueCharge, valueCount, storeAfterWrite-differs}
+use Rattle.recording.specs.Encoding.{valueBehind, writeFrom}
 use Rattle.recording.specs.Turn.{lastBody}
 use Rattle.recording.proofs.Bodies.{payloadFor, lastBody-lastWrite}
 use Rattle.command.specs.declared.Written.{Written}

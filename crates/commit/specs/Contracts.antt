@@ -1,4 +1,4 @@
--- What the functions of this crate ask and ensure, in the terms of the simple server: whether a command is refused
+-- What the functions of this crate ask and ensure, in the terms of the simple server: whether an action is refused
 -- with 102 at its turn (`refuses`), and whether any command of a commit is (`refusesAny`). Document 01, COMMIT: "If any
 -- WRITE or SUB would be refused at its turn, none is done and the answer is 102."
 use Prim.Native.Nat.{ℕ, _≤_}
@@ -10,10 +10,10 @@ use Rattle.octets.specs.Octets.{Bytes}
 use Rattle.protocol.specs.Terms.{Action, sub}
 use Rattle.command.specs.declared.Written.{Written}
 use Rattle.command.specs.Commands.{Splits}
-use Rattle.server.specs.Store.{Store, lookup}
-use Rattle.server.specs.Patterns.{Patterns}
-use Rattle.server.specs.Step.{storeAfter, patternsAfter, refuses, storeAfterAll}
-use Rattle.recording.specs.Command.{writeFrom, actionOf, commandFine}
+use Rattle.model.specs.Store.{Store, lookup}
+use Rattle.model.specs.Patterns.{Patterns}
+use Rattle.model.specs.Step.{storeAfter, patternsAfter, refuses, storeAfterAll}
+use Rattle.recording.specs.Encoding.{writeFrom, actionOf, actionFine}
 use Rattle.recording.specs.Region.{recordingFine}
 use Rattle.recording.specs.Turn.{earlier}
 use Rattle.recording.specs.Contracts.{RowAt, Until}
@@ -24,7 +24,7 @@ use Rattle.subscriptions.specs.Region.{patternsOf, subscriptionsFine}
 use Rattle.commit.specs.declared.Tally.{Tally}
 use Rattle.commit.specs.Tally.{TallyOf}
 
--- the store as the command at an offset of the recording finds it: with the earlier commands done
+-- the store as the action at an offset of the recording finds it: with the earlier actions done
 unfoldable pub storeBefore : Bytes → Bytes → ℕ → Store
 storeBefore st r at = storeAfterAll (earlier r at) (storeOf st)
 
@@ -50,13 +50,13 @@ pub record WriteTurn (st : Bytes) (index : List ℕ) (r : Bytes) (at : ℕ) (p :
   pub short : length p ≤ 65535
   pub tally : TallyOf (roomOf st) (storeBefore st r at) t
 
--- a client's subscriptions, and a command that is no WRITE
+-- a client's subscriptions, and an action that is no WRITE
 pub record PatternTurn (q : Bytes) (id : ℕ) (p : Bytes) : Type 0 where
   pub patterns-fine : subscriptionsFine q ≡ true
-  pub known : commandFine id (length p) ≡ true
+  pub known : actionFine id (length p) ≡ true
   pub other : id ≡ 4 → ⊥
 
--- a command's row at an offset of a recording, with an index of the store, the tally of the store there and a client's
+-- an action's row at an offset of a recording, with an index of the store, the tally of the store there and a client's
 -- subscriptions
 pub record Turn (st : Bytes) (index : List ℕ) (r : Bytes) (at : ℕ) (q : Bytes) (t : Tally) : Type 0 where
   pub store-fine : storeFine st ≡ true
@@ -67,7 +67,7 @@ pub record Turn (st : Bytes) (index : List ℕ) (r : Bytes) (at : ℕ) (q : Byte
 
 -- ---- what is ensured
 
--- The command a is tried out on the store s and the subscriptions q: t says whether it is refused; where it is not,
+-- The action a is tried out on the store s and the subscriptions q: t says whether it is refused; where it is not,
 -- t is the tally of the store after it, and q′ holds the patterns after it.
 pub record Taken (S : ℕ) (a : Action) (s : Store) (q q′ : Bytes) (t : Tally) : Type 0 where
   pub refused : t .refused ≡ refuses S a s (patternsOf q)
@@ -79,7 +79,7 @@ pub record Taken (S : ℕ) (a : Action) (s : Store) (q q′ : Bytes) (t : Tally)
 pub record WriteTaken (S : ℕ) (p : Bytes) (s : Store) (t : Tally) : Type 0 where
   pub value : (q : Bytes) → subscriptionsFine q ≡ true → Taken S (writeFrom p) s q q t
 
--- a command that is no WRITE is tried out, whatever the store is
+-- an action that is no WRITE is tried out, whatever the store is
 pub record PatternTaken (id : ℕ) (p : Bytes) (t : Tally) (q q′ : Bytes) (r : Tally) : Type 0 where
   pub value : (S : ℕ) (s : Store) → TallyOf S s t → Taken S (actionOf id p) s q q′ r
 

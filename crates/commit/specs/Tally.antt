@@ -9,7 +9,7 @@ use lib.Dec.{leb}
 use lib.ListN.{length}
 use Rattle.command.specs.declared.Written.{Written}
 use Rattle.command.specs.declared.Written.the-variants.{Delete, Value}
-use Rattle.server.specs.Store.{Store, storeCharge, storeFits}
+use Rattle.model.specs.Store.{Store, storeCharge, storeFits}
 use Rattle.store.specs.Operation.{rowCount}
 use Rattle.commit.specs.declared.Tally.{Tally}
 
@@ -23,7 +23,7 @@ abbrev pub bodySize : ℕ → ℕ
 bodySize zero = 0
 bodySize (suc n) = 8 + n
 
--- no command was refused so far, and the numbers are those of the store s, which keeps its limits
+-- no action was refused so far, and the numbers are those of the store s, which keeps its limits
 pub record TallyOf (S : ℕ) (s : Store) (t : Tally) : Type 0 where
   pub passed : t .refused ≡ false
   pub used : t .used ≡ storeCharge s

@@ -1,5 +1,5 @@
 // Whether a COMMIT, a WRITE or a SUB is refused with 102, decided over shared slices before
-// anything changes. A COMMIT is tried out: its commands are gone through in order, with a tally of
+// anything changes. A COMMIT is tried out: its actions are gone through in order, with a tally of
 // what the store would charge and hold, and with a copy of the client's subscriptions. `index` is
 // an index of the store: offsets of some of its rows, from which the search for a key may begin.
 // The store does not change while a COMMIT is tried out, so the index is only read. Internal layer:
@@ -12,9 +12,9 @@ ghost use mathlib.Core.Path.{_≡_};
 ghost use mathlib.Core.Bool.{true};
 ghost use Prim.Native.Nat.{_+_, _≤_};
 ghost use lib.ListN.{length, drop};
-ghost use Rattle.server.specs.Turn.{valueAtTurn};
-ghost use Rattle.server.specs.Step.{refusesAny};
-ghost use Rattle.recording.specs.Command.{commandAt};
+ghost use Rattle.model.specs.Turn.{valueAtTurn};
+ghost use Rattle.model.specs.Step.{refusesAny};
+ghost use Rattle.recording.specs.Encoding.{actionAt};
 ghost use Rattle.recording.specs.Region.{rowsOf, recorded};
 ghost use Rattle.recording.specs.Turn.{earlier};
 ghost use Rattle.store.specs.Region.{roomOf, storeOf};
@@ -26,7 +26,7 @@ ghost use Rattle.commit.specs.Contracts.{WriteTurn, PatternTurn, Turn};
 ghost use Rattle.commit.specs.Contracts.{WriteTaken, PatternTaken, Taken};
 ghost use Rattle.commit.specs.Contracts.{WriteRefused, SubRefused};
 
-// What the commands up to a turn come to: whether one is refused, and where none is, what the store
+// What the actions up to a turn come to: whether one is refused, and where none is, what the store
 // then charges and how many entries it has.
 struct Tally {
     refused: bool,
@@ -34,7 +34,7 @@ struct Tally {
     count: usize,
 }
 
-// The commit's look-up: the body that the key has at the turn of the command at the offset, a part
+// The commit's look-up: the body that the key has at the turn of the action at the offset, a part
 // of the recording or of the store. It is key, NUL and value, as the last WRITE of the key earlier
 // in the recording left them, or else as the store has them. It is empty where that WRITE left no
 // value or the store has none; the body of an empty value is not. The store's index shortens the
@@ -117,7 +117,7 @@ pub fn sub_refused(patterns: &[u8], pattern: &[u8]) -> bool
     !subscriptions::is_held(patterns, pattern)
 }
 
-// The tally after a command that is no WRITE. A SUB that is not refused, and an UNSUB, change the
+// The tally after an action that is no WRITE. A SUB that is not refused, and an UNSUB, change the
 // patterns.
 fn pattern_turn(patterns: &mut [u8], id: u8, pattern: &[u8], t: Tally) -> Tally
     requires { ⌜ PatternTurn (now patterns) id (now pattern) ⌝ }
@@ -142,7 +142,7 @@ fn pattern_turn(patterns: &mut [u8], id: u8, pattern: &[u8], t: Tally) -> Tally
     t
 }
 
-// The tally after the command at the offset.
+// The tally after the action at the offset.
 fn turn<'a>(
     store: &'a [u8],
     index: &[usize],
@@ -153,7 +153,7 @@ fn turn<'a>(
 ) -> Tally
     requires { ⌜ Turn (now store) (now index) (now recording) at (now patterns) t ⌝ }
     ensures { λ r. ⌜ Taken (roomOf (now (store .entry)))
-        (commandAt (drop at (rowsOf (now (recording .entry)))))
+        (actionAt (drop at (rowsOf (now (recording .entry)))))
         (storeBefore (now (store .entry)) (now (recording .entry)) at)
         (now (patterns .entry)) (now (patterns .exit)) r ⌝ }
 {

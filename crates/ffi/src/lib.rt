@@ -5,8 +5,8 @@
 ghost use mathlib.Core.Path.{_≡_};
 ghost use Rattle.pattern.specs.Answer.{answer};
 ghost use Rattle.infod3.specs.Infod3.{infod3};
-ghost use Rattle.server.specs.Decision.{opens, feeds, closes};
-ghost use Rattle.service.specs.Contracts.{sizesWith, sizeFor, SetsUp, Serves, Takes};
+ghost use Rattle.model.specs.Decision.{opens, feeds, closes};
+ghost use Rattle.refinement.specs.Contracts.{sizesWith, sizeFor, SetsUp, Serves, Takes};
 ghost use Rattle.ffi.specs.Results.{matchResult};
 
 // What a call gives back: its answer, and the bytes consumed by a feed or written by a take.

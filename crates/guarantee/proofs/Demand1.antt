@@ -10,16 +10,16 @@ use lib.Dec.{leb}
 use lib.ListN.{length}
 use lib.Seq.{sets}
 use Rattle.octets.specs.Octets.{Bytes}
-use Rattle.server.specs.State.{Sizes, inRange, slotAt}
-use Rattle.server.specs.Decision.{Call, takes, Reply, Decision}
-use Rattle.server.specs.Calls.{decide, serve}
-use Rattle.server.proofs.Tests.{either, by-test}
-use Rattle.server.proofs.Answers.{answers, unaltered-decision, refused-alone}
+use Rattle.model.specs.State.{Sizes, inRange, slotAt}
+use Rattle.model.specs.Decision.{Call, takes, Reply, Decision}
+use Rattle.model.specs.Calls.{decide, serve}
+use Rattle.model.proofs.Tests.{either, by-test}
+use Rattle.model.proofs.Answers.{answers, unaltered-decision, refused-alone}
 use Rattle.memory.specs.Layout.{memorySize}
 use Rattle.memory.specs.Image.{Image, imageOf}
 use Rattle.memory.specs.Rules.{memoryFine}
 use Rattle.infod3.specs.Infod3.{infod3}
-use Rattle.service.specs.Contracts.{setUpAnswer, replyTo, imageAfter, Serves}
+use Rattle.refinement.specs.Contracts.{setUpAnswer, replyTo, imageAfter, Serves}
 use Rattle.guarantee.specs.Demand1.{Asked, call, Called, sets-up, serves, gives, Numbered, ShutAlone, Demand1}
 
 -- ---- the answers

@@ -6,25 +6,25 @@ use Prim.Native.Nat.{ℕ}
 use Rattle.octets.specs.Octets.{Bytes}
 use Rattle.protocol.specs.Terms.{Action, Message}
 use Rattle.pattern.specs.Syntax.{valid}
-use Rattle.server.specs.Store.{Store}
-use Rattle.server.specs.State.{Sizes, Client, used, State, emptyServer, slotAt}
-use Rattle.server.specs.State.{withKind, withPatterns, withTransaction, withQueue}
-use Rattle.server.specs.Queueing.{rest}
-use Rattle.server.specs.Queue.{encoded, afterTake, shutBy, withMessages, afterStep}
-use Rattle.server.specs.Decision.{Call, Reply}
-use Rattle.server.specs.Calls.{decide, serve, afterCalls}
-use Rattle.server.specs.Log.{Log, newLog, logAfterStep}
-use Rattle.server.specs.History.{historyAfter}
-use Rattle.server.specs.Invariant.{Reachable}
-use Rattle.server.proofs.Invariants.{invariant-reachable}
-use Rattle.server.proofs.Queues.{StepOutcome, was-shut, got-all, got-none, step-outcome}
-use Rattle.server.proofs.Always.{free-not-used}
-use Rattle.server.proofs.Changes.{Change, kept, served, spoke, was-refused, ran, watched, SlotChange, slot-change}
-use Rattle.server.proofs.Changes.{vacant, closed-now, opened-now, changed}
+use Rattle.model.specs.Store.{Store}
+use Rattle.model.specs.State.{Sizes, Client, used, State, emptyServer, slotAt}
+use Rattle.model.specs.State.{withKind, withPatterns, withTransaction, withQueue}
+use Rattle.model.specs.Queueing.{rest}
+use Rattle.model.specs.Queue.{encoded, afterTake, shutBy, withMessages, afterStep}
+use Rattle.model.specs.Decision.{Call, Reply}
+use Rattle.model.specs.Calls.{decide, serve, afterCalls}
+use Rattle.model.specs.Log.{Log, newLog, logAfterStep}
+use Rattle.model.specs.History.{historyAfter}
+use Rattle.model.specs.Invariant.{Reachable}
+use Rattle.model.proofs.Invariants.{invariant-reachable}
+use Rattle.model.proofs.Queues.{StepOutcome, was-shut, got-all, got-none, step-outcome}
+use Rattle.model.proofs.Always.{free-not-used}
+use Rattle.model.proofs.Changes.{Change, kept, served, spoke, was-refused, ran, watched, SlotChange, slot-change}
+use Rattle.model.proofs.Changes.{vacant, closed-now, opened-now, changed}
 use Rattle.infod3.specs.Infod3.{infod3}
 use Rattle.infod3.proofs.Laws.{lawful}
-use Rattle.service.specs.Contracts.{Represents, SetsUp, Step}
-use Rattle.service.proofs.Runs.{step-state}
+use Rattle.refinement.specs.Contracts.{Represents, SetsUp, Step}
+use Rattle.refinement.proofs.Runs.{step-state}
 use Rattle.guarantee.specs.Demand2.{logOf, QueuedBehind, Demand2}
 use Rattle.guarantee.proofs.Start.{set-up-in-range}
 

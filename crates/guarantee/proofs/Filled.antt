@@ -11,7 +11,7 @@ use Rattle.octets.specs.Octets.{Bytes}
 use Rattle.octets.specs.Number.{numberAt, bigEndian}
 use Rattle.octets.specs.Table.{rows}
 use Rattle.octets.proofs.Numbers.{length-bigEndian, numberAt-back, numberAt-bigEndian-append}
-use Rattle.server.specs.Invariant.{Each}
+use Rattle.model.specs.Invariant.{Each}
 
 -- ---- numbers in front
 

@@ -10,9 +10,9 @@ use Rattle.octets.specs.Octets.{Bytes}
 use Rattle.octets.specs.Number.{numberAt}
 use Rattle.octets.specs.Table.{rows}
 use Rattle.pattern.specs.Syntax.{valid}
-use Rattle.server.specs.State.{Sizes, Slot, free, State, slotAt}
-use Rattle.server.specs.Forms.{slotWith, stateWith}
-use Rattle.server.specs.Invariant.{Each, SlotInvariant, Invariant}
+use Rattle.model.specs.State.{Sizes, Slot, free, State, slotAt}
+use Rattle.model.specs.Forms.{slotWith, stateWith}
+use Rattle.model.specs.Invariant.{Each, SlotInvariant, Invariant}
 use Rattle.store.proofs.Region as S
 use Rattle.store.proofs.Region.{represents-fine, represents-holds}
 use Rattle.slot.specs.Region.{slotOf, slotFine}
@@ -22,8 +22,8 @@ use Rattle.memory.specs.Rules.{Headed, all, slotsFine, memoryFine}
 use Rattle.memory.proofs.Sizes.{Ranges, ranges}
 use Rattle.memory.proofs.Fine.{headed-headFine}
 use Rattle.infod3.specs.Infod3.{infod3}
-use Rattle.service.specs.Represents.{inRows, stateImage}
-use Rattle.service.specs.Contracts.{Represents}
+use Rattle.refinement.specs.Represents.{inRows, stateImage}
+use Rattle.refinement.specs.Contracts.{Represents}
 use Rattle.guarantee.proofs.Filled.{numbersThen, length-numbersThen, numberAt-numbersThen, drop-numbersThen}
 use Rattle.guarantee.proofs.Filled.{tableBytes, length-tableBytes, rows-tableBytes}
 use Rattle.guarantee.proofs.StoreBytes.{storeBytes, length-storeBytes, storeBytes-represents}

@@ -9,9 +9,9 @@ use lib.ListN.{length, drop}
 use lib.Seq.{take-append-seam}
 use Rattle.octets.specs.Octets.{Bytes}
 use Rattle.pattern.specs.Syntax.{valid}
-use Rattle.server.specs.Patterns.{Patterns}
-use Rattle.server.specs.Lawful.{ValidPattern}
-use Rattle.server.specs.Invariant.{Each}
+use Rattle.model.specs.Patterns.{Patterns}
+use Rattle.model.specs.Lawful.{ValidPattern}
+use Rattle.model.specs.Invariant.{Each}
 use Rattle.subscriptions.specs.Region.{cell, countOf, patternsOf, subscriptionsFine}
 use Rattle.subscriptions.proofs.Cells.{rules-fine}
 use Rattle.guarantee.proofs.Filled.{numbersThen, length-numbersThen, numberAt-numbersThen, drop-numbersThen}

@@ -9,19 +9,19 @@ use lib.ListN.{length, drop, replicate, length-replicate}
 use borrow.Author.Tests.{le-leb}
 use Rattle.octets.specs.Octets.{Bytes}
 use Rattle.pattern.specs.Syntax.{valid}
-use Rattle.server.specs.State.{Sizes, inRange, State, emptyState, emptyServer}
-use Rattle.server.specs.Events.{afterEvent}
-use Rattle.server.specs.Decision.{Call, opens, feeds, takes, closes, Reply}
-use Rattle.server.specs.Calls.{serve}
-use Rattle.server.specs.Invariant.{Invariant}
-use Rattle.server.proofs.Answers.{unaltered-state}
-use Rattle.server.proofs.Invariants.{invariant-emptyServer, invariant-serve}
+use Rattle.model.specs.State.{Sizes, inRange, State, emptyState, emptyServer}
+use Rattle.model.specs.Events.{afterEvent}
+use Rattle.model.specs.Decision.{Call, opens, feeds, takes, closes, Reply}
+use Rattle.model.specs.Calls.{serve}
+use Rattle.model.specs.Invariant.{Invariant}
+use Rattle.model.proofs.Answers.{unaltered-state}
+use Rattle.model.proofs.Invariants.{invariant-emptyServer, invariant-serve}
 use Rattle.memory.specs.Layout.{memorySize}
 use Rattle.infod3.specs.Infod3.{infod3}
 use Rattle.infod3.proofs.Laws.{lawful}
-use Rattle.service.specs.Contracts.{Represents, setUpAnswer, replyTo, Serves}
-use Rattle.service.specs.Contracts.{Step, served, took, Run, none-left, next}
-use Rattle.service.proofs.Runs.{reply-state, next-state}
+use Rattle.refinement.specs.Contracts.{Represents, setUpAnswer, replyTo, Serves}
+use Rattle.refinement.specs.Contracts.{Step, served, took, Run, none-left, next}
+use Rattle.refinement.proofs.Runs.{reply-state, next-state}
 use Rattle.guarantee.specs.Possible.{Possible}
 use Rattle.guarantee.proofs.Start.{stateImage-emptyServer}
 use Rattle.guarantee.proofs.MemoryBytes.{memoryBytes, memoryBytes-behind, memoryBytes-represents}

@@ -7,12 +7,12 @@ use native.Mathlib.Omega.{arith}
 use lib.ListN.{length, drop, getD}
 use Rattle.octets.specs.Octets.{Bytes}
 use Rattle.octets.specs.Number.{numberAt}
-use Rattle.server.specs.Queueing.{queueCharge}
+use Rattle.model.specs.Queueing.{queueCharge}
 use Rattle.queue.specs.Rows.{rows}
 use Rattle.queue.specs.Region.{AtRest, head, tail, pendingEnd, flag, queuedOf, queueOf}
 use Rattle.queue.proofs.Regions.{pendingOf-rest}
-use Rattle.service.specs.Represents.{inRows}
-use Rattle.service.proofs.Steps.{length-rows}
+use Rattle.refinement.specs.Represents.{inRows}
+use Rattle.refinement.proofs.Steps.{length-rows}
 use Rattle.guarantee.proofs.Filled.{numbersThen, length-numbersThen, numberAt-numbersThen, drop-numbersThen}
 use Rattle.guarantee.proofs.Filled.{filled, length-filled, take-filled}
 

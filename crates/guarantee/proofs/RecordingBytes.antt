@@ -9,27 +9,27 @@ use lib.ListN.{length, drop, getD, length-append}
 use borrow.Author.Tests.{leb-true, le-leb}
 use Rattle.octets.specs.Octets.{Bytes}
 use Rattle.octets.specs.Number.{numberAt}
-use Rattle.protocol.specs.Terms.{Action, hello, sub, unsub, read, write, ping, payload, commandId}
+use Rattle.protocol.specs.Terms.{Action, hello, sub, unsub, read, write, ping, payload, actionId}
 use Rattle.pattern.specs.Syntax.{valid}
-use Rattle.server.specs.State.{Transaction, off, begun, commandsOf, recordingCharge, recordingFits}
-use Rattle.server.specs.Lawful.{ValidAction}
-use Rattle.server.specs.Invariant.{Each, ValidRecording}
-use Rattle.server.proofs.Tests.{and-left, and-right}
-use Rattle.recording.specs.Command.{readsBack, commandFine, rowOf, commands, rowsFine}
+use Rattle.model.specs.State.{Transaction, off, begun, actionsIn, recordingCharge, recordingFits}
+use Rattle.model.specs.Lawful.{ValidAction}
+use Rattle.model.specs.Invariant.{Each, ValidRecording}
+use Rattle.model.proofs.Tests.{and-left, and-right}
+use Rattle.recording.specs.Encoding.{readsBack, actionFine, rowOf, actionsFrom, rowsFine}
 use Rattle.recording.specs.Region.{stateOf, usedOf, countOf, roomOf, rowsOf, recorded, transactionOf}
 use Rattle.recording.specs.Region.{sized, stateFine, recordingFine}
 use Rattle.recording.proofs.Tests.{and-true-true}
-use Rattle.recording.proofs.Commands.{actionOf-payload}
-use Rattle.recording.proofs.Packed.{length-rowOf, rowsFine-rowOf, commands-rowOf, rowsFine-append, commands-append}
+use Rattle.recording.proofs.Encodings.{actionOf-payload}
+use Rattle.recording.proofs.Packed.{length-rowOf, rowsFine-rowOf, actionsFrom-rowOf, rowsFine-append, actionsFrom-append}
 use Rattle.infod3.specs.Infod3.{infod3}
 use Rattle.guarantee.proofs.Filled.{numbersThen, length-numbersThen, numberAt-numbersThen, drop-numbersThen}
 use Rattle.guarantee.proofs.Filled.{filled, length-filled, take-filled, tableBytes}
 
--- a command as a row
+-- an action as a row
 unfoldable pub actionBytes : Action → Bytes
-actionBytes a = rowOf (commandId a) (payload a)
+actionBytes a = rowOf (actionId a) (payload a)
 
--- the numbers of a region with this state and these commands
+-- the numbers of a region with this state and these actions
 abbrev pub numbersOf : ℕ → List Action → List ℕ
 numbersOf state xs = state ∷ recordingCharge xs ∷ length xs ∷ []
 
@@ -44,12 +44,12 @@ stateNumber (begun xs) = 1
 
 -- a transaction as a region
 unfoldable pub transactionBytes : ℕ → Transaction → Bytes
-transactionBytes R t = recordingBytes R (stateNumber t) (commandsOf t)
+transactionBytes R t = recordingBytes R (stateNumber t) (actionsIn t)
 
 -- ---- the rows
 
-action-fine : (a : Action) → ValidAction valid a → commandFine (commandId a) (length (payload a)) ≡ true
-unfolding commandFine payload
+action-fine : (a : Action) → ValidAction valid a → actionFine (actionId a) (length (payload a)) ≡ true
+unfolding actionFine payload
 action-fine (hello t) v = le-leb _ _ (v .short)
 action-fine (sub p) v = le-leb _ _ (v .content .short)
 action-fine (unsub p) v = le-leb _ _ (v .content .short)
@@ -73,19 +73,19 @@ actions-fine [] h = refl
 actions-fine (a ∷ xs) h =
     let e : 1 + length xs ≡ suc (length xs) = omega arith in
     rw e at (rowsFine-append 1 (length xs) (actionBytes a) (tableBytes actionBytes xs)
-    (rowsFine-rowOf (commandId a) (payload a) (action-fine a (h .0))) (actions-fine xs (h .1)))
+    (rowsFine-rowOf (actionId a) (payload a) (action-fine a (h .0))) (actions-fine xs (h .1)))
 
-actions-are : (xs : List Action) → Each (ValidAction valid) xs → commands (length xs) (tableBytes actionBytes xs) ≡ xs
-unfolding tableBytes actionBytes commands
+actions-are : (xs : List Action) → Each (ValidAction valid) xs → actionsFrom (length xs) (tableBytes actionBytes xs) ≡ xs
+unfolding tableBytes actionBytes actionsFrom
 actions-are [] h = refl
 actions-are (a ∷ xs) h =
     let e : 1 + length xs ≡ suc (length xs) = omega arith in
     let f = action-fine a (h .0) in
-    let one : commands 1 (actionBytes a) ≡ a ∷ [] =
-    commands-rowOf (commandId a) (payload a) f
+    let one : actionsFrom 1 (actionBytes a) ≡ a ∷ [] =
+    actionsFrom-rowOf (actionId a) (payload a) f
     ∙ ap (λ (x : Action). x ∷ []) (actionOf-payload a (action-back a (h .0))) in
-    (rw e at (commands-append 1 (length xs) (actionBytes a) (tableBytes actionBytes xs)
-    (rowsFine-rowOf (commandId a) (payload a) f)))
+    (rw e at (actionsFrom-append 1 (length xs) (actionBytes a) (tableBytes actionBytes xs)
+    (rowsFine-rowOf (actionId a) (payload a) f)))
     ∙ ap₂ _++_ one (actions-are xs (h .1))
 
 length-actions : (xs : List Action) → Each (ValidAction valid) xs
@@ -93,7 +93,7 @@ length-actions : (xs : List Action) → Each (ValidAction valid) xs
 unfolding tableBytes actionBytes recordingCharge
 length-actions [] h = refl
 length-actions (a ∷ xs) h =
-    rw (length-append, length-rowOf (commandId a) (payload a) (action-fine a (h .0)), length-actions xs (h .1))
+    rw (length-append, length-rowOf (actionId a) (payload a) (action-fine a (h .0)), length-actions xs (h .1))
     (omega arith)
 
 -- ---- the region
@@ -167,19 +167,19 @@ state-bit : (t : Transaction) → stateNumber t ≤ 1
 state-bit off = omega arith
 state-bit (begun xs) = omega arith
 
-state-known : (t : Transaction) → stateFine (stateNumber t) (length (commandsOf t)) ≡ true
+state-known : (t : Transaction) → stateFine (stateNumber t) (length (actionsIn t)) ≡ true
 unfolding stateFine
 state-known off = refl
 state-known (begun xs) = refl
 
-state-means : (t : Transaction) → cond (eqb (stateNumber t) 0) off (begun (commandsOf t)) ≡ t
+state-means : (t : Transaction) → cond (eqb (stateNumber t) 0) off (begun (actionsIn t)) ≡ t
 state-means off = refl
 state-means (begun xs) = refl
 
 -- what a transaction within its limits has recorded
 actions-valid : (R : ℕ) (t : Transaction)
     → ((xs : List Action) → t ≡ begun xs → ValidRecording infod3 valid R xs)
-    → ValidRecording infod3 valid R (commandsOf t)
+    → ValidRecording infod3 valid R (actionsIn t)
 unfolding recordingFits recordingCharge
 actions-valid R off h = record { fits = le-leb 0 R (omega arith); actions = tt }
 actions-valid R (begun xs) h = h xs refl
@@ -189,15 +189,15 @@ module _ (R : ℕ) (t : Transaction) (small : R ≤ 262144)
   pub length-transaction : length (transactionBytes R t) ≡ 12 + R
   unfolding transactionBytes
   length-transaction =
-      length-recording R (stateNumber t) (commandsOf t) small (state-known t) (state-bit t) (actions-valid R t h)
+      length-recording R (stateNumber t) (actionsIn t) small (state-known t) (state-bit t) (actions-valid R t h)
 
   pub transaction-fine : recordingFine (transactionBytes R t) ≡ true
   unfolding transactionBytes
   transaction-fine =
-      recording-fine R (stateNumber t) (commandsOf t) small (state-known t) (state-bit t) (actions-valid R t h)
+      recording-fine R (stateNumber t) (actionsIn t) small (state-known t) (state-bit t) (actions-valid R t h)
 
   pub transaction-means : transactionOf (transactionBytes R t) ≡ t
   unfolding transactionBytes
   transaction-means =
-      transaction-is R (stateNumber t) (commandsOf t) small (state-known t) (state-bit t) (actions-valid R t h)
+      transaction-is R (stateNumber t) (actionsIn t) small (state-known t) (state-bit t) (actions-valid R t h)
       ∙ state-means t

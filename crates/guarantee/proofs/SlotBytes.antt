@@ -10,10 +10,10 @@ use lib.Seq.{take-at, drop-at, drop-drop}
 use borrow.Author.Tests.{eq-eqb}
 use Rattle.octets.specs.Octets.{Bytes}
 use Rattle.pattern.specs.Syntax.{valid}
-use Rattle.server.specs.State.{Sizes, Client, Slot, free, used}
-use Rattle.server.specs.Queueing.{queueCharge}
-use Rattle.server.specs.Forms.{clientWith, slotWith}
-use Rattle.server.specs.Invariant.{ClientInvariant, SlotInvariant}
+use Rattle.model.specs.State.{Sizes, Client, Slot, free, used}
+use Rattle.model.specs.Queueing.{queueCharge}
+use Rattle.model.specs.Forms.{clientWith, slotWith}
+use Rattle.model.specs.Invariant.{ClientInvariant, SlotInvariant}
 use Rattle.recording.specs.Region.{transactionOf}
 use Rattle.subscriptions.specs.Region.{patternsOf}
 use Rattle.slot.specs.Image.{ClientImage, Resting}
@@ -23,7 +23,7 @@ use Rattle.slot.proofs.Slots.{Holds, Fine, image, clientOf-holds, rules-holds, 
 use Rattle.slot.proofs.Tests as slot
 use Rattle.memory.specs.Layout.{stride}
 use Rattle.infod3.specs.Infod3.{infod3}
-use Rattle.service.specs.Represents.{inRows}
+use Rattle.refinement.specs.Represents.{inRows}
 use Rattle.guarantee.proofs.PatternBytes.{subscriptionsBytes, length-subscriptions, subscriptions-fine}
 use Rattle.guarantee.proofs.PatternBytes.{patterns-are}
 use Rattle.guarantee.proofs.QueueBytes.{queueBytes, length-queue, at-rest, queue-is}

@@ -10,9 +10,9 @@ use lib.Seq.{take-append-seam, drop-append-add, getD-append-seam}
 use borrow.Author.Tests.{leb-true}
 use Rattle.octets.specs.Octets.{Bytes}
 use Rattle.octets.specs.Number.{numberAt}
-use Rattle.server.specs.Store.{Entry, Store, storeCharge, storeFits}
-use Rattle.server.specs.Invariant.{Each, ValidEntry, Ascending}
-use Rattle.server.proofs.Tests.{and-left, and-right}
+use Rattle.model.specs.Store.{Entry, Store, storeCharge, storeFits}
+use Rattle.model.specs.Invariant.{Each, ValidEntry, Ascending}
+use Rattle.model.proofs.Tests.{and-left, and-right}
 use Rattle.store.specs.Row.{rowBytes}
 use Rattle.store.specs.Region.{usedOf, rowsOf}
 use Rattle.store.proofs.Rows.{Rows, rows-append, length-rows}

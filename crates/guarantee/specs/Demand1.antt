@@ -11,12 +11,12 @@ use Rattle.octets.specs.Octets.{Bytes}
 use Rattle.protocol.specs.Terms.{number, error}
 use Rattle.protocol.specs.declared.Kind.{Kind}
 use Rattle.protocol.specs.declared.Refusal.{Refusal}
-use Rattle.server.specs.State.{Sizes, off, used, slotAt}
-use Rattle.server.specs.Decision.{Call, feeds, takes, Silent}
+use Rattle.model.specs.State.{Sizes, off, used, slotAt}
+use Rattle.model.specs.Decision.{Call, feeds, takes, Silent}
 use Rattle.slot.specs.Image.{inBytes, ClientImage}
 use Rattle.memory.specs.Image.{imageOf}
 use Rattle.infod3.specs.Infod3.{infod3}
-use Rattle.service.specs.Contracts.{SetsUp, Serves, Takes}
+use Rattle.refinement.specs.Contracts.{SetsUp, Serves, Takes}
 
 -- what the broker is asked for: a set up with these sizes, or one of the calls after it
 pub data Asked : Type 0 where

@@ -5,14 +5,14 @@ use Prim.Native.Nat.{ℕ}
 use mathlib.Core.Path.{_≡_}
 use mathlib.Core.List.{[], _++_}
 use Rattle.octets.specs.Octets.{Bytes}
-use Rattle.server.specs.State.{Client, used, State, slotAt}
-use Rattle.server.specs.Queue.{encoded}
-use Rattle.server.specs.Decision.{Call, Reply}
-use Rattle.server.specs.Calls.{serve}
-use Rattle.server.specs.Log.{Log, newLog}
-use Rattle.server.specs.History.{historyAfter}
+use Rattle.model.specs.State.{Client, used, State, slotAt}
+use Rattle.model.specs.Queue.{encoded}
+use Rattle.model.specs.Decision.{Call, Reply}
+use Rattle.model.specs.Calls.{serve}
+use Rattle.model.specs.Log.{Log, newLog}
+use Rattle.model.specs.History.{historyAfter}
 use Rattle.infod3.specs.Infod3.{infod3}
-use Rattle.service.specs.Contracts.{Represents}
+use Rattle.refinement.specs.Contracts.{Represents}
 
 -- what the simple server queues to the client of slot j in one call, and what that call gives from its queue: the log
 -- of the call alone

@@ -28,11 +28,11 @@ use Rattle.message.specs.Quoting.{isEscaped, escape, escapes, quote}
 use Rattle.message.specs.Quoting as Quoting
 use Rattle.message.specs.Rows.{rowIn, rowOf}
 use Rattle.message.specs.Forms as Forms
-use Rattle.server.specs.State.{emptyServer}
-use Rattle.server.specs.Decision.{opens}
-use Rattle.server.specs.Calls.{afterCalls}
-use Rattle.server.proofs.Definitions.{definitions}
-use Rattle.server.proofs.Sessions.{Delivery, session, session-definitions}
+use Rattle.model.specs.State.{emptyServer}
+use Rattle.model.specs.Decision.{opens}
+use Rattle.model.specs.Calls.{afterCalls}
+use Rattle.model.proofs.Definitions.{definitions}
+use Rattle.model.proofs.Sessions.{Delivery, session, session-definitions}
 use Rattle.infod3.specs.Infod3.{infod3}
 
 -- ---- the program

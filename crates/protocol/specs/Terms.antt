@@ -28,12 +28,14 @@ reason State = ascii "bad state"
 
 -- ---- what a client says
 
--- a command that runs, at once or at its turn in a commit. HELLO holds its payload. A WRITE without a value deletes.
+-- an action: a command that runs, at once or at its turn in a commit, which is any but BEGIN and COMMIT. HELLO holds
+-- its payload. A WRITE without a value deletes.
 pub data Action : Type 0 where
   hello sub unsub read : Bytes → Action
   write : Bytes → Option Bytes → Action
   ping : Bytes → Action
 
+-- a command: BEGIN, COMMIT or an action
 pub data Command : Type 0 where
   begin commit : Command
   plain : Action → Command
@@ -43,7 +45,7 @@ unfoldable pub valueTail : Option Bytes → Bytes
 valueTail none = []
 valueTail (some v) = 0 ∷ v
 
--- a command's payload in binary form
+-- an action's payload in binary form
 unfoldable pub payload : Action → Bytes
 payload (hello t) = t
 payload (sub p) = p
@@ -52,14 +54,14 @@ payload (read k) = k
 payload (write k v) = k ++ valueTail v
 payload (ping i) = i
 
--- a command's ID
-abbrev pub commandId : Action → ℕ
-commandId (hello t) = 0
-commandId (sub p) = 1
-commandId (unsub p) = 2
-commandId (read k) = 3
-commandId (write k v) = 4
-commandId (ping i) = 7
+-- an action's ID
+abbrev pub actionId : Action → ℕ
+actionId (hello t) = 0
+actionId (sub p) = 1
+actionId (unsub p) = 2
+actionId (read k) = 3
+actionId (write k v) = 4
+actionId (ping i) = 7
 
 -- ---- what the server says
 

@@ -14,7 +14,7 @@ use Rattle.octets.specs.Order.{same}
 use Rattle.octets.proofs.Nul.{firstNul-within}
 use Rattle.octets.proofs.Orders.{same-eq, eq-same, ne-same}
 use Rattle.protocol.specs.Terms.{Action, hello, sub, unsub, read, write, ping, payload}
-use Rattle.server.specs.Turn.{orElse, writeOf, lastWrite}
+use Rattle.model.specs.Turn.{orElse, writeOf, lastWrite}
 use Rattle.recording.specs.Turn.{bodyFor, lastBody}
 use Rattle.recording.proofs.Tests.{either}
 

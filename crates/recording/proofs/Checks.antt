@@ -11,7 +11,7 @@ use borrow.Author.Tests.{eqb-true, eqb-false, eq-eqb, ne-eqb, le-leb, lt-leb}
 use Rattle.octets.specs.Octets.{Bytes}
 use Rattle.octets.specs.Number.{numberAt}
 use Rattle.octets.proofs.Numbers.{numberAt-drop}
-use Rattle.recording.specs.Command.{commandFine, rowSize, rowFine, rowsFine}
+use Rattle.recording.specs.Encoding.{actionFine, rowSize, rowFine, rowsFine}
 use Rattle.recording.proofs.Tests.{either}
 use Rattle.recording.proofs.Packed.{rowFine-whole}
 use Rattle.recording.specs.Region.{stateOf, usedOf, countOf, roomOf, rowsOf, sized, stateFine, recordingFine}
@@ -23,12 +23,12 @@ module _ (s : Bytes) where
   unfolding rowFine
   rowFine-short h = rw (lt-leb 4 (length s) h)
 
-  rowFine-long : 4 ≤ length s → rowFine s ≡ commandFine (getD s 0 0) (numberAt 3 s 1) && leb (rowSize s) (length s)
+  rowFine-long : 4 ≤ length s → rowFine s ≡ actionFine (getD s 0 0) (numberAt 3 s 1) && leb (rowSize s) (length s)
   unfolding rowFine
   rowFine-long h = rw (le-leb 4 (length s) h)
 
 pub rowFine-at : (s : Bytes) (at : ℕ) → at + 4 ≤ length s
-    → rowFine (drop at s) ≡ commandFine (getD s at 0) (numberAt 3 s (at + 1))
+    → rowFine (drop at s) ≡ actionFine (getD s at 0) (numberAt 3 s (at + 1))
     && leb (4 + numberAt 3 s (at + 1)) (length s - at)
 unfolding rowSize
 rowFine-at s at h =

@@ -1,5 +1,5 @@
 pub mod Tests
-pub mod Commands
+pub mod Encodings
 pub mod Packed
 pub mod Offsets
 pub mod Regions

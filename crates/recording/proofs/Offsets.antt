@@ -1,4 +1,4 @@
--- The laws of offsets: where each row begins, which command it is, and which commands lie before it.
+-- The laws of offsets: where each row begins, which action it is, and which actions lie before it.
 use mathlib.Core.Path.{_≡_, refl, sym, ap}
 use mathlib.Core.List.{List, _∷_}
 use mathlib.Core.Bool.{true}
@@ -10,9 +10,9 @@ use lib.Seq.{drop-drop}
 use borrow.Author.Tests.{ne-eqb}
 use Rattle.octets.specs.Octets.{Bytes}
 use Rattle.protocol.specs.Terms.{Action}
-use Rattle.recording.specs.Command.{rowSize, commandAt}
-use Rattle.recording.specs.Command.{commands, offsetOf, rowsFine}
-use Rattle.recording.specs.Turn.{commandsBefore}
+use Rattle.recording.specs.Encoding.{rowSize, actionAt}
+use Rattle.recording.specs.Encoding.{actionsFrom, offsetOf, rowsFine}
+use Rattle.recording.specs.Turn.{actionsBefore}
 use Rattle.recording.proofs.Packed.{rowFine-whole, first-row, other-rows, no-rows}
 
 -- past the first i rows come the others
@@ -26,15 +26,15 @@ rows-from (suc n) (suc i) s l h =
     rows-from n i (drop (rowSize s) s) (omega arith) (other-rows n s h) in
     rw e (rw (drop-drop (offsetOf i (drop (rowSize s) s)) (rowSize s) s) at k)
 
--- row i is the i-th command
-pub getD-commands : (n i : ℕ) (s : Bytes) (d : Action) → i < n
-    → getD (commands n s) i d ≡ commandAt (drop (offsetOf i s) s)
-unfolding offsetOf commands
-getD-commands zero i s d l = absurd (omega arith)
-getD-commands (suc n) zero s d l = refl
-getD-commands (suc n) (suc i) s d l =
+-- row i is the i-th action
+pub getD-actionsFrom : (n i : ℕ) (s : Bytes) (d : Action) → i < n
+    → getD (actionsFrom n s) i d ≡ actionAt (drop (offsetOf i s) s)
+unfolding offsetOf actionsFrom
+getD-actionsFrom zero i s d l = absurd (omega arith)
+getD-actionsFrom (suc n) zero s d l = refl
+getD-actionsFrom (suc n) (suc i) s d l =
     rw (← (drop-drop (offsetOf i (drop (rowSize s) s)) (rowSize s) s))
-    (getD-commands n i (drop (rowSize s) s) d (omega arith))
+    (getD-actionsFrom n i (drop (rowSize s) s) d (omega arith))
 
 pub offsetOf-within : (n i : ℕ) (s : Bytes) → i ≤ n → rowsFine n s ≡ true → offsetOf i s ≤ length s
 unfolding offsetOf
@@ -64,14 +64,14 @@ rowSize-positive : (s : Bytes) → 0 < rowSize s
 unfolding rowSize
 rowSize-positive s = omega arith
 
--- the commands before an offset of a row
-pub commandsBefore-offset : (n i : ℕ) (s : Bytes) → i ≤ n → commandsBefore n (offsetOf i s) s ≡ take i (commands n s)
-unfolding commandsBefore commands offsetOf
-commandsBefore-offset zero zero s l = refl
-commandsBefore-offset (suc n) zero s l = refl
-commandsBefore-offset zero (suc i) s l = absurd (omega arith)
-commandsBefore-offset (suc n) (suc i) s l =
+-- the actions before an offset of a row
+pub actionsBefore-offset : (n i : ℕ) (s : Bytes) → i ≤ n → actionsBefore n (offsetOf i s) s ≡ take i (actionsFrom n s)
+unfolding actionsBefore actionsFrom offsetOf
+actionsBefore-offset zero zero s l = refl
+actionsBefore-offset (suc n) zero s l = refl
+actionsBefore-offset zero (suc i) s l = absurd (omega arith)
+actionsBefore-offset (suc n) (suc i) s l =
     let t : Bytes = drop (rowSize s) s in
     let ne : rowSize s + offsetOf i t ≡ 0 → ⊥ = λ e. omega (arith, rowSize-positive s) in
     rw (ne-eqb (rowSize s + offsetOf i t) 0 ne, add-sub-cancel-left (rowSize s) (offsetOf i t))
-    (ap (λ (l : List Action). commandAt s ∷ l) (commandsBefore-offset n i t (omega arith)))
+    (ap (λ (l : List Action). actionAt s ∷ l) (actionsBefore-offset n i t (omega arith)))

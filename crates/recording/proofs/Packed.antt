@@ -1,4 +1,4 @@
--- The laws of rows: the row in front, a row as it is written, rows behind rows, and what their commands charge.
+-- The laws of rows: the row in front, a row as it is written, rows behind rows, and what their actions charge.
 use mathlib.Core.Path.{_≡_, refl, sym, ap, _∙_}
 use mathlib.Core.List.{List, [], _∷_, _++_}
 use mathlib.Core.Bool.{true, _&&_, _||_}
@@ -15,24 +15,24 @@ use Rattle.octets.specs.Number.{numberAt, bigEndian}
 use Rattle.octets.proofs.Parts.{part-append-front, length-part}
 use Rattle.octets.proofs.Numbers.{numberAt-front, length-bigEndian, numberAt-bigEndian-append, numberAt-drop}
 use Rattle.protocol.specs.Terms.{Action, payload}
-use Rattle.server.specs.State.{recordingCharge}
-use Rattle.recording.specs.Command.{actionOf, commandFine, rowOf, rowSize, rowPayload, commandAt, rowFine}
-use Rattle.recording.specs.Command.{commands, rowsFine}
+use Rattle.model.specs.State.{recordingCharge}
+use Rattle.recording.specs.Encoding.{actionOf, actionFine, rowOf, rowSize, rowPayload, actionAt, rowFine}
+use Rattle.recording.specs.Encoding.{actionsFrom, rowsFine}
 use Rattle.recording.proofs.Tests.{either, and-both, and-true-true}
-use Rattle.recording.proofs.Commands.{payload-actionOf}
+use Rattle.recording.proofs.Encodings.{payload-actionOf}
 
 -- ---- a row in front
 
 pub record Whole (s : Bytes) : Type 0 where
   pub head : 4 ≤ length s
-  pub known : commandFine (getD s 0 0) (numberAt 3 s 1) ≡ true
+  pub known : actionFine (getD s 0 0) (numberAt 3 s 1) ≡ true
   pub fits : rowSize s ≤ length s
 
 pub rowFine-whole : (s : Bytes) → rowFine s ≡ true → Whole s
 unfolding rowFine
 rowFine-whole s h =
-    let p = and-both (leb 4 (length s)) (commandFine (getD s 0 0) (numberAt 3 s 1) && leb (rowSize s) (length s)) h in
-    let q = and-both (commandFine (getD s 0 0) (numberAt 3 s 1)) (leb (rowSize s) (length s)) (p .1) in
+    let p = and-both (leb 4 (length s)) (actionFine (getD s 0 0) (numberAt 3 s 1) && leb (rowSize s) (length s)) h in
+    let q = and-both (actionFine (getD s 0 0) (numberAt 3 s 1)) (leb (rowSize s) (length s)) (p .1) in
     record { head = leb-true 4 (length s) (p .0); known = q .0; fits = leb-true (rowSize s) (length s) (q .1) }
 
 pub whole-rowFine : (s : Bytes) → Whole s → rowFine s ≡ true
@@ -40,8 +40,8 @@ unfolding rowFine
 whole-rowFine s w =
     and-true-true (le-leb 4 (length s) (w .head)) (and-true-true (w .known) (le-leb (rowSize s) (length s) (w .fits)))
 
-pub length-payload : (s : Bytes) → rowFine s ≡ true → length (payload (commandAt s)) + 4 ≡ rowSize s
-unfolding commandAt rowPayload rowSize
+pub length-payload : (s : Bytes) → rowFine s ≡ true → length (payload (actionAt s)) + 4 ≡ rowSize s
+unfolding actionAt rowPayload rowSize
 length-payload s h =
     let w = rowFine-whole s h in
     let f : 4 + numberAt 3 s 1 ≤ length s = w .fits in
@@ -57,9 +57,9 @@ module _ (s t : Bytes) where
   unfolding rowSize
   rowSize-append h = ap (λ (n : ℕ). 4 + n) (numberAt-append h)
 
-  commandAt-append : rowFine s ≡ true → commandAt (s ++ t) ≡ commandAt s
-  unfolding commandAt rowPayload rowSize
-  commandAt-append h =
+  actionAt-append : rowFine s ≡ true → actionAt (s ++ t) ≡ actionAt s
+  unfolding actionAt rowPayload rowSize
+  actionAt-append h =
       let w = rowFine-whole s h in
       let f : 4 + numberAt 3 s 1 ≤ length s = w .fits in
       rw (
@@ -103,10 +103,10 @@ no-bytes : (s : Bytes) → length s ≡ 0 → s ≡ []
 no-bytes [] e = refl
 no-bytes (x ∷ s) e = absurd (omega arith)
 
-pub length-commands : (n : ℕ) (s : Bytes) → length (commands n s) ≡ n
-unfolding commands
-length-commands zero s = refl
-length-commands (suc n) s = ap suc (length-commands n (drop (rowSize s) s))
+pub length-actionsFrom : (n : ℕ) (s : Bytes) → length (actionsFrom n s) ≡ n
+unfolding actionsFrom
+length-actionsFrom zero s = refl
+length-actionsFrom (suc n) s = ap suc (length-actionsFrom n (drop (rowSize s) s))
 
 pub rowsFine-append : (n m : ℕ) (s t : Bytes) → rowsFine n s ≡ true → rowsFine m t ≡ true
     → rowsFine (n + m) (s ++ t) ≡ true
@@ -117,37 +117,37 @@ rowsFine-append (suc n) m s t h k =
     (and-true-true (rowFine-append s t (first-row n s h))
     (rw (drop-row-append s t (first-row n s h)) (rowsFine-append n m (drop (rowSize s) s) t (other-rows n s h) k)))
 
-pub commands-append : (n m : ℕ) (s t : Bytes) → rowsFine n s ≡ true
-    → commands (n + m) (s ++ t) ≡ commands n s ++ commands m t
-unfolding commands
-commands-append zero m s t h = rw (no-bytes s (no-rows s h), zero-add m)
-commands-append (suc n) m s t h =
-    rw (suc-add n m, commandAt-append s t (first-row n s h), drop-row-append s t (first-row n s h))
-    (ap (λ (l : List Action). commandAt s ∷ l) (commands-append n m (drop (rowSize s) s) t (other-rows n s h)))
+pub actionsFrom-append : (n m : ℕ) (s t : Bytes) → rowsFine n s ≡ true
+    → actionsFrom (n + m) (s ++ t) ≡ actionsFrom n s ++ actionsFrom m t
+unfolding actionsFrom
+actionsFrom-append zero m s t h = rw (no-bytes s (no-rows s h), zero-add m)
+actionsFrom-append (suc n) m s t h =
+    rw (suc-add n m, actionAt-append s t (first-row n s h), drop-row-append s t (first-row n s h))
+    (ap (λ (l : List Action). actionAt s ∷ l) (actionsFrom-append n m (drop (rowSize s) s) t (other-rows n s h)))
 
--- a row is as long as its command charges
-pub recordingCharge-commands : (n : ℕ) (s : Bytes) → rowsFine n s ≡ true → recordingCharge (commands n s) ≡ length s
-unfolding commands recordingCharge
-recordingCharge-commands zero s h = sym (no-rows s h)
-recordingCharge-commands (suc n) s h =
+-- a row is as long as its action charges
+pub recordingCharge-actionsFrom : (n : ℕ) (s : Bytes) → rowsFine n s ≡ true → recordingCharge (actionsFrom n s) ≡ length s
+unfolding actionsFrom recordingCharge
+recordingCharge-actionsFrom zero s h = sym (no-rows s h)
+recordingCharge-actionsFrom (suc n) s h =
     let w = rowFine-whole s (first-row n s h) in
     rw (
       length-payload s (first-row n s h),
-      recordingCharge-commands n (drop (rowSize s) s) (other-rows n s h),
+      recordingCharge-actionsFrom n (drop (rowSize s) s) (other-rows n s h),
       length-drop (rowSize s) s,
     )
     (omega (arith, w .fits))
 
 -- ---- a row as it is written
 
-pub commandFine-short : (id n : ℕ) → commandFine id n ≡ true → n ≤ 65535
-unfolding commandFine
-commandFine-short id n h =
+pub actionFine-short : (id n : ℕ) → actionFine id n ≡ true → n ≤ 65535
+unfolding actionFine
+actionFine-short id n h =
     either (eqb id 1 || eqb id 2)
     (λ t. let k : n ≤ 255 = leb-true n 255 (rw t at h) in omega arith)
     (λ t. leb-true n 65535 (and-both (leb id 4 || eqb id 7) (leb n 65535) (rw t at h) .1))
 
-module _ (id : ℕ) (p : Bytes) (h : commandFine id (length p) ≡ true) where
+module _ (id : ℕ) (p : Bytes) (h : actionFine id (length p) ≡ true) where
   pub length-rowOf : length (rowOf id p) ≡ 4 + length p
   unfolding rowOf
   length-rowOf = rw (length-append (bigEndian 3 (length p)) p, length-bigEndian 3 (length p)) (omega arith)
@@ -159,7 +159,7 @@ module _ (id : ℕ) (p : Bytes) (h : commandFine id (length p) ≡ true) where
   numberAt-rowOf : numberAt 3 (rowOf id p) 1 ≡ length p
   unfolding rowOf
   numberAt-rowOf =
-      let k : length p < 256 ^ 3 = omega (arith, commandFine-short id (length p) h) in
+      let k : length p < 256 ^ 3 = omega (arith, actionFine-short id (length p) h) in
       sym (numberAt-drop 3 (rowOf id p) 1 0) ∙ numberAt-bigEndian-append 3 (length p) p k
 
   rowSize-rowOf : rowSize (rowOf id p) ≡ 4 + length p
@@ -172,9 +172,9 @@ module _ (id : ℕ) (p : Bytes) (h : commandFine id (length p) ≡ true) where
       rw numberAt-rowOf
       (ap (take (length p)) (drop-at (bigEndian 3 (length p)) p 3 (length-bigEndian 3 (length p))) ∙ take-length p)
 
-  commandAt-rowOf : commandAt (rowOf id p) ≡ actionOf id p
-  unfolding commandAt
-  commandAt-rowOf = rw (rowPayload-rowOf, head-rowOf)
+  actionAt-rowOf : actionAt (rowOf id p) ≡ actionOf id p
+  unfolding actionAt
+  actionAt-rowOf = rw (rowPayload-rowOf, head-rowOf)
 
   rowFine-rowOf : rowFine (rowOf id p) ≡ true
   rowFine-rowOf =
@@ -192,6 +192,6 @@ module _ (id : ℕ) (p : Bytes) (h : commandFine id (length p) ≡ true) where
       and-true-true rowFine-rowOf
       (rw (length-drop (rowSize (rowOf id p)) (rowOf id p), rowSize-rowOf, length-rowOf, sub-self (4 + length p)) refl)
 
-  pub commands-rowOf : commands 1 (rowOf id p) ≡ actionOf id p ∷ []
-  unfolding commands
-  commands-rowOf = rw commandAt-rowOf
+  pub actionsFrom-rowOf : actionsFrom 1 (rowOf id p) ≡ actionOf id p ∷ []
+  unfolding actionsFrom
+  actionsFrom-rowOf = rw actionAt-rowOf

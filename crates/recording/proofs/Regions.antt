@@ -1,4 +1,4 @@
--- The laws of the region: its rules one by one, what its numbers say of the commands, and whether one more fits.
+-- The laws of the region: its rules one by one, what its numbers say of the actions, and whether one more fits.
 use mathlib.Core.Path.{_≡_, sym, _∙_}
 use mathlib.Core.List.{List, [], _∷_, _++_}
 use mathlib.Core.Bool.{true, false, _&&_, not, true≢false}
@@ -11,13 +11,13 @@ use borrow.Author.Tests.{eqb-true, leb-true, leb-false, le-leb, lt-leb}
 use Rattle.octets.specs.Octets.{Bytes}
 use Rattle.octets.proofs.Parts.{length-part}
 use Rattle.protocol.specs.Terms.{Action, payload}
-use Rattle.server.specs.State.{begun, isBegun, commandsOf, recordingCharge, recordingFits}
-use Rattle.recording.specs.Command.{commands, rowsFine}
+use Rattle.model.specs.State.{begun, isBegun, actionsIn, recordingCharge, recordingFits}
+use Rattle.recording.specs.Encoding.{actionsFrom, rowsFine}
 use Rattle.recording.specs.Region.{stateOf, usedOf, countOf, roomOf, rowsOf, recorded, transactionOf, sized}
 use Rattle.recording.specs.Region.{stateFine, recordingFine}
 use Rattle.recording.specs.Contracts.{Fits}
 use Rattle.recording.proofs.Tests.{either, and-both, and-true-true}
-use Rattle.recording.proofs.Packed.{length-commands, recordingCharge-commands}
+use Rattle.recording.proofs.Packed.{length-actionsFrom, recordingCharge-actionsFrom}
 
 -- ---- the rules
 
@@ -70,11 +70,11 @@ pub used-charge : (r : Bytes) → recordingFine r ≡ true → usedOf r ≡ reco
 unfolding recorded
 used-charge r h =
     let w = fine-rules h in
-    sym (recordingCharge-commands (countOf r) (rowsOf r) (w .rows) ∙ length-rowsOf w)
+    sym (recordingCharge-actionsFrom (countOf r) (rowsOf r) (w .rows) ∙ length-rowsOf w)
 
 pub count-recorded : (r : Bytes) → countOf r ≡ length (recorded r)
 unfolding recorded
-count-recorded r = sym (length-commands (countOf r) (rowsOf r))
+count-recorded r = sym (length-actionsFrom (countOf r) (rowsOf r))
 
 pub isBegun-on : (r : Bytes) → isBegun (transactionOf r) ≡ not (eqb (stateOf r) 0)
 unfolding transactionOf
@@ -84,10 +84,10 @@ none-counted : (state n : ℕ) → stateFine state n ≡ true → eqb state 0 �
 unfolding stateFine
 none-counted state n h e = eqb-true n 0 (rw (eqb-true state 0 e) at h)
 
--- the commands of the rows are those of the transaction: without one there are none
-pub recorded-commands : (r : Bytes) → recordingFine r ≡ true → recorded r ≡ commandsOf (transactionOf r)
-unfolding recorded transactionOf commands
-recorded-commands r h =
+-- the actions of the rows are those of the transaction: without one there are none
+pub recorded-actions : (r : Bytes) → recordingFine r ≡ true → recorded r ≡ actionsIn (transactionOf r)
+unfolding recorded transactionOf actionsFrom
+recorded-actions r h =
     either (eqb (stateOf r) 0)
     (λ e. rw (e, none-counted (stateOf r) (countOf r) (fine-rules h .state) e))
     (λ e. rw e)

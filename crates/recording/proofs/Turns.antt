@@ -14,14 +14,14 @@ use Rattle.octets.specs.Octets.{Bytes, firstNul}
 use Rattle.octets.specs.Order.{same}
 use Rattle.octets.specs.Part.{part}
 use Rattle.octets.specs.Number.{numberAt}
-use Rattle.server.specs.Turn.{orElse, foundOr}
+use Rattle.model.specs.Turn.{orElse, foundOr}
 use Rattle.recording.specs.declared.turn.Row.{Row}
-use Rattle.recording.specs.Command.{writeFrom, actionOf, rowSize, commandAt, rowsFine}
+use Rattle.recording.specs.Encoding.{writeFrom, actionOf, rowSize, actionAt, rowsFine}
 use Rattle.recording.specs.Region.{countOf, rowsOf}
-use Rattle.recording.specs.Turn.{bodyFor, lastBody, commandsBefore, earlier, bodyOf}
+use Rattle.recording.specs.Turn.{bodyFor, lastBody, actionsBefore, earlier, bodyOf}
 use Rattle.recording.specs.Contracts.{RowAt, Until, Candidate, Latest, LastWrite}
 use Rattle.recording.proofs.Tests.{either}
-use Rattle.recording.proofs.Commands.{payload-writeFrom}
+use Rattle.recording.proofs.Encodings.{payload-writeFrom}
 use Rattle.recording.proofs.Packed.{first-row, other-rows, no-rows}
 use Rattle.recording.proofs.Regions.{fine-rules, length-rowsOf}
 use Rattle.recording.proofs.Walks.{row-here}
@@ -43,7 +43,7 @@ pub record Looked (r k : Bytes) (until at : ℕ) (w : Row) : Type 0 where
   pub rest : ℕ
   pub rows : rowsFine rest (drop at (rowsOf r)) ≡ true
   pub value : lastBody k (earlier r until)
-      ≡ orElse (lastBody k (commandsBefore rest (until - at) (drop at (rowsOf r)))) (bodyOf r w)
+      ≡ orElse (lastBody k (actionsBefore rest (until - at) (drop at (rowsOf r)))) (bodyOf r w)
   pub within : w .at + w .len ≤ length r
 
 pub look-start : (r k : Bytes) (until : ℕ) → Until r until
@@ -54,7 +54,7 @@ look-start r k until h =
     record {
       rest = countOf r;
       rows = m .rows;
-      value = rw (sub-zero until) (sym (orElse-none (lastBody k (commandsBefore (countOf r) until (rowsOf r)))));
+      value = rw (sub-zero until) (sym (orElse-none (lastBody k (actionsBefore (countOf r) until (rowsOf r)))));
       within = omega arith;
     }
 
@@ -74,12 +74,12 @@ module _ (r k : Bytes) (until at : ℕ) (w : Row) (g : Until r until) (l : at < 
 
   pub look-next : Looked r k until at w → (v : Row) → Latest r at k w v
       → Looked r k until (at + rowSize (drop at (rowsOf r))) v
-  unfolding commandsBefore lastBody
+  unfolding actionsBefore lastBody
   look-next h v f = go (h .rest) (h .rows) (h .value)
     where
       go : (n : ℕ) → rowsFine n (drop at (rowsOf r)) ≡ true
           → lastBody k (earlier r until)
-          ≡ orElse (lastBody k (commandsBefore n (until - at) (drop at (rowsOf r)))) (bodyOf r w)
+          ≡ orElse (lastBody k (actionsBefore n (until - at) (drop at (rowsOf r)))) (bodyOf r w)
           → Looked r k until (at + rowSize (drop at (rowsOf r))) v
       go zero e q = absurd (look-some zero e refl)
       go (suc n) e q =
@@ -87,15 +87,15 @@ module _ (r k : Bytes) (until at : ℕ) (w : Row) (g : Until r until) (l : at < 
           let ne : until - at ≡ 0 → ⊥ = λ z. omega arith in
           let d : drop (rowSize s) s ≡ drop (at + rowSize s) (rowsOf r) = drop-drop (rowSize s) at (rowsOf r) in
           let u : until - at - rowSize s ≡ until - (at + rowSize s) = omega arith in
-          let xs : Option Bytes = lastBody k (commandsBefore n (until - at - rowSize s) (drop (rowSize s) s)) in
-          let q₁ : lastBody k (earlier r until) ≡ orElse (orElse xs (bodyFor k (commandAt s))) (bodyOf r w) =
+          let xs : Option Bytes = lastBody k (actionsBefore n (until - at - rowSize s) (drop (rowSize s) s)) in
+          let q₁ : lastBody k (earlier r until) ≡ orElse (orElse xs (bodyFor k (actionAt s))) (bodyOf r w) =
           rw (ne-eqb (until - at) 0 ne) at q in
           let q₂ : lastBody k (earlier r until) ≡ orElse xs (bodyOf r v) =
-          q₁ ∙ orElse-assoc xs (bodyFor k (commandAt s)) (bodyOf r w) ∙ ap (orElse xs) (sym (f .value)) in
+          q₁ ∙ orElse-assoc xs (bodyFor k (actionAt s)) (bodyOf r w) ∙ ap (orElse xs) (sym (f .value)) in
           record { rest = n; rows = rw d at (other-rows n s e); value = rw (u, d) at q₂; within = f .within }
 
-none-before : (n : ℕ) (s : Bytes) → commandsBefore n 0 s ≡ []
-unfolding commandsBefore
+none-before : (n : ℕ) (s : Bytes) → actionsBefore n 0 s ≡ []
+unfolding actionsBefore
 none-before zero s = refl
 none-before (suc n) s = refl
 
@@ -122,7 +122,7 @@ bodyFor-write k id p e =
     rw e (ap (λ (l : Bytes). cond (same k (take (firstNul p) p)) (some l) none) (payload-writeFrom p))
 
 module _ (r k : Bytes) (at n : ℕ) (w : Row) (h : Candidate r at n w) where
-  candidate : commandAt (drop at (rowsOf r)) ≡ actionOf (getD r (12 + at) 0) (part r (16 + at) n)
+  candidate : actionAt (drop at (rowsOf r)) ≡ actionOf (getD r (12 + at) 0) (part r (16 + at) n)
   candidate =
       let m = row-here r at (h .row) in
       let e : numberAt 3 r (13 + at) ≡ n = omega (arith, m .size, h .long) in
@@ -136,7 +136,7 @@ module _ (r k : Bytes) (at n : ℕ) (w : Row) (h : Candidate r at n w) where
       }
 
   latest-write : getD r (12 + at) 0 ≡ 4
-      → bodyFor k (commandAt (drop at (rowsOf r)))
+      → bodyFor k (actionAt (drop at (rowsOf r)))
       ≡ cond (same k (take (firstNul (part r (16 + at) n)) (part r (16 + at) n))) (some (part r (16 + at) n)) none
   latest-write e = rw candidate (bodyFor-write k (getD r (12 + at) 0) (part r (16 + at) n) e)
 

@@ -1,5 +1,5 @@
 -- Walking: what a row at an offset is in the region, and the offsets of the rows one after the other. A walk starts at
--- offset 0, goes on by the size of each row, and ends at the used bytes; the row at step i is the i-th command.
+-- offset 0, goes on by the size of each row, and ends at the used bytes; the row at step i is the i-th action.
 use mathlib.Core.Path.{_≡_, refl, sym, ap, _∙_}
 use mathlib.Core.Bool.{true}
 use Prim.Native.Nat.{ℕ, suc, _+_, _-_, _≤_, _<_}
@@ -11,16 +11,16 @@ use Rattle.octets.specs.Part.{part}
 use Rattle.octets.specs.Number.{numberAt}
 use Rattle.octets.proofs.Parts.{drop-part, getD-part, part-part}
 use Rattle.octets.proofs.Numbers.{numberAt-part}
-use Rattle.protocol.specs.Terms.{Action, commandId, payload}
-use Rattle.recording.specs.Command.{actionOf, rowSize, rowPayload, commandAt, offsetOf}
-use Rattle.recording.specs.Command.{rowsFine}
+use Rattle.protocol.specs.Terms.{Action, actionId, payload}
+use Rattle.recording.specs.Encoding.{actionOf, rowSize, rowPayload, actionAt, offsetOf}
+use Rattle.recording.specs.Encoding.{rowsFine}
 use Rattle.recording.specs.Region.{usedOf, countOf, rowsOf, recorded, recordingFine}
 use Rattle.recording.specs.Turn.{earlier}
 use Rattle.recording.specs.Contracts.{RowAt, Until}
-use Rattle.recording.proofs.Commands.{payload-actionOf, commandId-actionOf, actionOf-payload, readsBack-actionOf}
+use Rattle.recording.proofs.Encodings.{payload-actionOf, actionId-actionOf, actionOf-payload, readsBack-actionOf}
 use Rattle.recording.proofs.Packed.{rowFine-whole, first-row}
-use Rattle.recording.proofs.Offsets.{rows-from, getD-commands, offsetOf-within, offsetOf-suc, offsetOf-all}
-use Rattle.recording.proofs.Offsets.{commandsBefore-offset}
+use Rattle.recording.proofs.Offsets.{rows-from, getD-actionsFrom, offsetOf-within, offsetOf-suc, offsetOf-all}
+use Rattle.recording.proofs.Offsets.{actionsBefore-offset}
 use Rattle.recording.proofs.Regions.{fine-rules, length-rowsOf, count-recorded}
 
 -- ---- a row in the region
@@ -29,13 +29,13 @@ pub record Here (r : Bytes) (at : ℕ) : Type 0 where
   pub within : at + rowSize (drop at (rowsOf r)) ≤ usedOf r
   pub bound : 16 + at + numberAt 3 r (13 + at) ≤ length r
   pub size : 4 + numberAt 3 r (13 + at) ≡ rowSize (drop at (rowsOf r))
-  pub command : commandAt (drop at (rowsOf r))
+  pub command : actionAt (drop at (rowsOf r))
       ≡ actionOf (getD r (12 + at) 0) (part r (16 + at) (numberAt 3 r (13 + at)))
-  pub id : getD r (12 + at) 0 ≡ commandId (commandAt (drop at (rowsOf r)))
-  pub body : part r (16 + at) (numberAt 3 r (13 + at)) ≡ payload (commandAt (drop at (rowsOf r)))
+  pub id : getD r (12 + at) 0 ≡ actionId (actionAt (drop at (rowsOf r)))
+  pub body : part r (16 + at) (numberAt 3 r (13 + at)) ≡ payload (actionAt (drop at (rowsOf r)))
 
 pub row-here : (r : Bytes) (at : ℕ) → RowAt r at → Here r at
-unfolding rowsOf rowSize rowPayload commandAt
+unfolding rowsOf rowSize rowPayload actionAt
 row-here r at h =
     let m = fine-rules (h .fine) in
     let w = rowFine-whole (drop at (rowsOf r)) (h .here) in
@@ -64,17 +64,17 @@ row-here r at h =
       bound = omega (arith, m .head, m .used, g, n);
       size = ap (λ (k : ℕ). 4 + k) (sym n);
       command = rw (i, p);
-      id = sym (commandId-actionOf (getD (drop at (rowsOf r)) 0 0)
+      id = sym (actionId-actionOf (getD (drop at (rowsOf r)) 0 0)
           (part (drop at (rowsOf r)) 4 (numberAt 3 (drop at (rowsOf r)) 1)) _ (w .known) ∙ i);
       body = sym (payload-actionOf (getD (drop at (rowsOf r)) 0 0)
           (part (drop at (rowsOf r)) 4 (numberAt 3 (drop at (rowsOf r)) 1)) ∙ p);
     }
 
--- the ID and the payload of a row are all of its command
-pub actionOf-commandAt : (s : Bytes)
-    → actionOf (commandId (commandAt s)) (payload (commandAt s)) ≡ commandAt s
-unfolding commandAt
-actionOf-commandAt s = actionOf-payload (commandAt s) (readsBack-actionOf (getD s 0 0) (rowPayload s))
+-- the ID and the payload of a row are all of its action
+pub actionOf-actionAt : (s : Bytes)
+    → actionOf (actionId (actionAt s)) (payload (actionAt s)) ≡ actionAt s
+unfolding actionAt
+actionOf-actionAt s = actionOf-payload (actionAt s) (readsBack-actionOf (getD s 0 0) (rowPayload s))
 
 -- ---- from row to row
 
@@ -96,11 +96,11 @@ module _ (r : Bytes) (at i : ℕ) (w : Walk r at i) where
       offsetOf-within (countOf r) i (rowsOf r) (omega (arith, w .step, count-recorded r)) (m .rows) in
       record { fine = w .fine; within = omega (arith, w .place, length-rowsOf m) }
 
-  -- the commands gone by are those before the offset
+  -- the actions gone by are those before the offset
   pub walk-earlier : earlier r at ≡ take i (recorded r)
   unfolding earlier recorded
   walk-earlier =
-      rw (w .place) (commandsBefore-offset (countOf r) i (rowsOf r) (omega (arith, w .step, count-recorded r)))
+      rw (w .place) (actionsBefore-offset (countOf r) i (rowsOf r) (omega (arith, w .step, count-recorded r)))
 
   pub walk-row : i < length (recorded r) → RowAt r at
   walk-row l =
@@ -115,10 +115,10 @@ module _ (r : Bytes) (at i : ℕ) (w : Walk r at i) where
             rw (w .place) (first-row (countOf r - suc i) (drop (offsetOf i (rowsOf r)) (rowsOf r)) f);
       }
 
-  -- the row at the offset is the i-th command
-  pub walk-command : (d : Action) → i < length (recorded r) → getD (recorded r) i d ≡ commandAt (drop at (rowsOf r))
+  -- the row at the offset is the i-th action
+  pub walk-action : (d : Action) → i < length (recorded r) → getD (recorded r) i d ≡ actionAt (drop at (rowsOf r))
   unfolding recorded
-  walk-command d l = rw (w .place) (getD-commands (countOf r) i (rowsOf r) d (omega (arith, count-recorded r)))
+  walk-action d l = rw (w .place) (getD-actionsFrom (countOf r) i (rowsOf r) d (omega (arith, count-recorded r)))
 
   pub walk-next : i < length (recorded r) → Walk r (at + rowSize (drop at (rowsOf r))) (i + 1)
   walk-next l =

@@ -1,4 +1,4 @@
--- What writes make of the region: its header, an empty recording, a command added.
+-- What writes make of the region: its header, an empty recording, an action added.
 use mathlib.Core.Path.{_≡_, refl, sym, ap, _∙_}
 use mathlib.Core.List.{[], _∷_, _++_}
 use mathlib.Core.Bool.{true, cond, _&&_}
@@ -16,14 +16,14 @@ use Rattle.octets.proofs.Laws.{sets-append}
 use Rattle.octets.proofs.Parts.{drop-sets, part-sets-end}
 use Rattle.octets.proofs.Numbers.{numberAt-sets-same, numberAt-sets-apart, length-bigEndian}
 use Rattle.protocol.specs.Terms.{payload}
-use Rattle.server.specs.State.{off, begun}
-use Rattle.recording.specs.Command.{actionOf, rowOf, commands, rowsFine}
+use Rattle.model.specs.State.{off, begun}
+use Rattle.recording.specs.Encoding.{actionOf, rowOf, actionsFrom, rowsFine}
 use Rattle.recording.specs.Region.{stateOf, usedOf, countOf, roomOf, rowsOf, recorded, transactionOf, sized}
 use Rattle.recording.specs.Region.{stateFine, recordingFine}
 use Rattle.recording.specs.Contracts.{Becomes, headed, Addable}
 use Rattle.recording.proofs.Tests.{and-both}
-use Rattle.recording.proofs.Commands.{payload-actionOf}
-use Rattle.recording.proofs.Packed.{rowsFine-append, commands-append, rowsFine-rowOf, commands-rowOf}
+use Rattle.recording.proofs.Encodings.{payload-actionOf}
+use Rattle.recording.proofs.Packed.{rowsFine-append, actionsFrom-append, rowsFine-rowOf, actionsFrom-rowOf}
 use Rattle.recording.proofs.Packed.{length-rowOf}
 use Rattle.recording.proofs.Regions.{sized-bounds, fine-rules, rules-fine, recordingFits-next}
 
@@ -91,7 +91,7 @@ headed-fine {r} {s} {u} {n} w =
     })
 
 transactionOf-headed : {r : Bytes} {s u n : ℕ} → Header r s u n
-    → transactionOf (headed r s u n) ≡ cond (eqb s 0) off (begun (commands n (part r 12 u)))
+    → transactionOf (headed r s u n) ≡ cond (eqb s 0) off (begun (actionsFrom n (part r 12 u)))
 unfolding transactionOf recorded
 transactionOf-headed {r} {s} {u} {n} w =
     let hs : s < 256 ^ 4 = omega (arith, w .known) in
@@ -108,12 +108,12 @@ empty-header r s h k f =
 
 pub becomes-empty : (r : Bytes) (s : ℕ) → sized r ≡ true → s ≤ 1 → stateFine s 0 ≡ true
     → Becomes (cond (eqb s 0) off (begun [])) r (headed r s 0 0)
-unfolding commands
+unfolding actionsFrom
 becomes-empty r s h k f =
     let e = empty-header r s h k f in
     record { fine = headed-fine e; size = length-headed r s 0 0 (e .head); holds = transactionOf-headed e }
 
--- ---- a command added
+-- ---- an action added
 
 on-state : (n : ℕ) → stateFine 1 n ≡ true
 unfolding stateFine
@@ -128,7 +128,7 @@ row-written r at id p =
     let f : at + 1 ≡ suc at = add-one at in
     rw (← e, f) (sym (sets-append (set r at id) (suc at) (bigEndian 3 (length p)) p))
 
--- a command with a payload of n bytes fits
+-- an action with a payload of n bytes fits
 pub record Space (r : Bytes) (n : ℕ) : Type 0 where
   pub few : countOf r + 1 ≤ 64
   pub room : usedOf r + (n + 4) ≤ length r - 12
@@ -171,12 +171,12 @@ module _ (r : Bytes) (id : ℕ) (p : Bytes) (w : Addable r id p) where
             (rowsFine-rowOf id p (w .known)));
       }
 
-  added-commands : commands (countOf r + 1) (part (added r id p) 12 (usedOf r + 4 + length p))
+  added-actions : actionsFrom (countOf r + 1) (part (added r id p) 12 (usedOf r + 4 + length p))
       ≡ recorded r ++ (actionOf id p ∷ [])
   unfolding recorded
-  added-commands =
+  added-actions =
       let m = fine-rules (w .fine) in
-      rw (rows-added, commands-append (countOf r) 1 (rowsOf r) (rowOf id p) (m .rows), commands-rowOf id p (w .known))
+      rw (rows-added, actionsFrom-append (countOf r) 1 (rowsOf r) (rowOf id p) (m .rows), actionsFrom-rowOf id p (w .known))
 
   pub becomes-added : Becomes (begun (recorded r ++ (actionOf id p ∷ []))) r
       (headed (added r id p) 1 (usedOf r + 4 + length p) (countOf r + 1))
@@ -185,5 +185,5 @@ module _ (r : Bytes) (id : ℕ) (p : Bytes) (w : Addable r id p) where
         fine = headed-fine added-header;
         size = length-headed (added r id p) 1 (usedOf r + 4 + length p) (countOf r + 1) (added-header .head)
             ∙ length-added;
-        holds = transactionOf-headed added-header ∙ ap begun added-commands;
+        holds = transactionOf-headed added-header ∙ ap begun added-actions;
       }

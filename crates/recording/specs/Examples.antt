@@ -8,12 +8,12 @@ use Rattle.octets.specs.Octets.{Bytes, ascii, firstNul}
 use Rattle.octets.specs.Order.{same}
 use Rattle.octets.specs.Number.{digits, number, numberAt, bigEndian}
 use Rattle.protocol.specs.Terms.{write, ping, payload, valueTail}
-use Rattle.server.specs.State.{off, begun}
-use Rattle.recording.specs.Command.{valueBehind, writeFrom, actionOf, commandFine, rowOf, rowSize, rowPayload}
-use Rattle.recording.specs.Command.{commandAt, rowFine, commands, rowsFine}
+use Rattle.model.specs.State.{off, begun}
+use Rattle.recording.specs.Encoding.{valueBehind, writeFrom, actionOf, actionFine, rowOf, rowSize, rowPayload}
+use Rattle.recording.specs.Encoding.{actionAt, rowFine, actionsFrom, rowsFine}
 use Rattle.recording.specs.Region.{stateOf, usedOf, countOf, rowsOf, recorded, transactionOf, sized, stateFine}
 use Rattle.recording.specs.Region.{recordingFine}
-use Rattle.recording.specs.Turn.{bodyFor, lastBody, valueIn, commandsBefore, earlier, bodyAtTurn}
+use Rattle.recording.specs.Turn.{bodyFor, lastBody, valueIn, actionsBefore, earlier, bodyAtTurn}
 
 -- ---- a WRITE: no NUL deletes, an empty value is a value, and a value may hold NULs
 
@@ -29,30 +29,30 @@ write-nuls : actionOf 4 (107 ∷ 0 ∷ 0 ∷ 1 ∷ []) ≡ write (ascii "k") (so
 unfolding actionOf writeFrom valueBehind firstNul ascii
 write-nuls = refl
 
--- ---- which commands can be recorded: not BEGIN or COMMIT, a pattern of 255 bytes and no longer
+-- ---- which actions can be recorded: not BEGIN or COMMIT, a pattern of 255 bytes and no longer
 
-begin-unknown : commandFine 5 0 ≡ false
-unfolding commandFine
+begin-unknown : actionFine 5 0 ≡ false
+unfolding actionFine
 begin-unknown = refl
 
-commit-unknown : commandFine 6 0 ≡ false
-unfolding commandFine
+commit-unknown : actionFine 6 0 ≡ false
+unfolding actionFine
 commit-unknown = refl
 
-pattern-longest : commandFine 1 255 ≡ true
-unfolding commandFine
+pattern-longest : actionFine 1 255 ≡ true
+unfolding actionFine
 pattern-longest = refl
 
-pattern-too-long : commandFine 2 256 ≡ false
-unfolding commandFine
+pattern-too-long : actionFine 2 256 ≡ false
+unfolding actionFine
 pattern-too-long = refl
 
-payload-longest : commandFine 4 65535 ≡ true
-unfolding commandFine
+payload-longest : actionFine 4 65535 ≡ true
+unfolding actionFine
 payload-longest = refl
 
-payload-too-long : commandFine 7 65536 ≡ false
-unfolding commandFine
+payload-too-long : actionFine 7 65536 ≡ false
+unfolding actionFine
 payload-too-long = refl
 
 -- ---- a region with 20 bytes of room: WRITE k, then WRITE k v, then PING x; its last 3 bytes are free
@@ -70,14 +70,14 @@ row-first = refl
 recorded-three : transactionOf (region 1 17 3)
     ≡ begun (write (ascii "k") none ∷ write (ascii "k") (some (ascii "v")) ∷ ping (ascii "x") ∷ [])
 unfolding region rows-three transactionOf recorded stateOf usedOf countOf rowsOf numberAt number digits
-    commands commandAt rowPayload rowSize actionOf writeFrom valueBehind firstNul ascii
+    actionsFrom actionAt rowPayload rowSize actionOf writeFrom valueBehind firstNul ascii
 recorded-three = refl
 
 not-recording : transactionOf (region 0 0 0) ≡ off
 unfolding region rows-three transactionOf stateOf numberAt number digits
 not-recording = refl
 
--- whole, none, and empty recordings are fine; a row cut short, a row too many, an unknown state, commands in state 0,
+-- whole, none, and empty recordings are fine; a row cut short, a row too many, an unknown state, actions in state 0,
 -- and used bytes past the room are not
 rules : List Bool
 rules =
@@ -93,7 +93,7 @@ rules =
 
 rules-hold : rules ≡ true ∷ true ∷ true ∷ false ∷ false ∷ false ∷ false ∷ false ∷ []
 unfolding rules region rows-three recordingFine sized stateFine stateOf usedOf countOf rowsOf numberAt number digits
-    rowsFine rowFine rowSize commandFine
+    rowsFine rowFine rowSize actionFine
 rules-hold = refl
 
 -- ---- the look-up at offsets 0, 5 and 12, where the store has k with the value s: no WRITE yet, deleted, written
@@ -106,8 +106,8 @@ turns =
     ∷ []
 
 turns-find : turns ≡ (107 ∷ 0 ∷ 115 ∷ []) ∷ (107 ∷ []) ∷ (107 ∷ 0 ∷ 118 ∷ []) ∷ []
-unfolding turns region rows-three earlier commandsBefore lastBody bodyFor payload valueTail same countOf usedOf rowsOf
-    numberAt number digits commandAt rowPayload rowSize actionOf writeFrom valueBehind firstNul ascii
+unfolding turns region rows-three earlier actionsBefore lastBody bodyFor payload valueTail same countOf usedOf rowsOf
+    numberAt number digits actionAt rowPayload rowSize actionOf writeFrom valueBehind firstNul ascii
 turns-find = refl
 
 -- a body's value: none for the key alone and for nothing, the empty value behind the NUL

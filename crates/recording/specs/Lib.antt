@@ -1,4 +1,4 @@
-pub mod Command
+pub mod Encoding
 pub mod Region
 pub mod Turn
 pub mod Contracts

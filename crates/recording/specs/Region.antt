@@ -1,5 +1,5 @@
--- The recording region of a slot: state 4 (0 none, 1 recording), used bytes 4, number of commands 4, then the record
--- room of R bytes, whose first used bytes are the commands' rows. Its rules (`recordingFine`) and its meaning
+-- The recording region of a slot: state 4 (0 none, 1 recording), used bytes 4, number of actions 4, then the record
+-- room of R bytes, whose first used bytes are the actions' rows. Its rules (`recordingFine`) and its meaning
 -- (`transactionOf`): what a client has recorded since its BEGIN (document 01, "The simple server", BEGIN). Numbers have
 -- the highest byte first. The bytes behind the rows have no rule.
 use Prim.Native.Nat.{ℕ, _-_}
@@ -11,8 +11,8 @@ use Rattle.octets.specs.Octets.{Bytes}
 use Rattle.octets.specs.Part.{part}
 use Rattle.octets.specs.Number.{numberAt}
 use Rattle.protocol.specs.Terms.{Action}
-use Rattle.server.specs.State.{off, begun, Transaction}
-use Rattle.recording.specs.Command.{commands, rowsFine}
+use Rattle.model.specs.State.{off, begun, Transaction}
+use Rattle.recording.specs.Encoding.{actionsFrom, rowsFine}
 
 unfoldable pub stateOf : Bytes → ℕ
 stateOf r = numberAt 4 r 0
@@ -31,11 +31,11 @@ roomOf r = length r - 12
 unfoldable pub rowsOf : Bytes → Bytes
 rowsOf r = part r 12 (usedOf r)
 
--- the commands of the rows
+-- the actions of the rows
 unfoldable pub recorded : Bytes → List Action
-recorded r = commands (countOf r) (rowsOf r)
+recorded r = actionsFrom (countOf r) (rowsOf r)
 
--- what the region means: no transaction, or one with the commands recorded so far, in order
+-- what the region means: no transaction, or one with the actions recorded so far, in order
 unfoldable pub transactionOf : Bytes → Transaction
 transactionOf r = cond (eqb (stateOf r) 0) off (begun (recorded r))
 
@@ -43,11 +43,11 @@ transactionOf r = cond (eqb (stateOf r) 0) off (begun (recorded r))
 unfoldable pub sized : Bytes → Bool
 sized r = leb 12 (length r) && leb (length r) 262156
 
--- the state is 1, or it is 0 and no command is held
+-- the state is 1, or it is 0 and no action is held
 unfoldable pub stateFine : ℕ → ℕ → Bool
 stateFine state n = eqb state 1 || (eqb state 0 && eqb n 0)
 
--- The rules: the size; used bytes within R; at most 64 commands; a state that is known; and the used bytes are just so
+-- The rules: the size; used bytes within R; at most 64 actions; a state that is known; and the used bytes are just so
 -- many whole rows, so that in state 0 none is used.
 unfoldable pub recordingFine : Bytes → Bool
 recordingFine r =

@@ -1,6 +1,6 @@
-// The recording region of a slot: the commands that a client has recorded since its BEGIN, in lent
-// bytes. State 4 (0 none, 1 recording), used bytes 4, number of commands 4, then the record room of
-// R bytes, in whose first used bytes each command has a row: ID 1, payload length 3, payload.
+// The recording region of a slot: the actions that a client has recorded since its BEGIN, in lent
+// bytes. State 4 (0 none, 1 recording), used bytes 4, number of actions 4, then the record room of
+// R bytes, in whose first used bytes each action has a row: ID 1, payload length 3, payload.
 // Offsets count from the start of the room. A function that writes leaves open the bytes of the
 // room behind the rows. Internal layer: what a function requires is its callers' to show.
 mod rows;
@@ -19,9 +19,9 @@ ghost use lib.ListN.{length};
 ghost use Rattle.recording.specs.Region.{sized, stateFine, recorded};
 ghost use Rattle.recording.specs.Region.{transactionOf, recordingFine};
 ghost use Rattle.recording.specs.Contracts.{Becomes, headed, extended, Fits, Addable};
-ghost use Rattle.server.specs.State.{off, begun, isBegun};
+ghost use Rattle.model.specs.State.{off, begun, isBegun};
 
-// Whether a state is known and goes with n commands.
+// Whether a state is known and goes with n actions.
 fn is_state(state: usize, n: usize) -> bool
     ensures { λ b. ⌜ b ≡ stateFine state n ⌝ }
 {
@@ -67,7 +67,7 @@ pub fn is_on(r: &[u8]) -> bool
     octets::u32_at(r, 0) != 0
 }
 
-// The number of commands.
+// The number of actions.
 pub fn count(r: &[u8]) -> usize
     requires { ⌜ recordingFine (now r) ≡ true ⌝ }
     ensures { λ n. ⌜ n ≡ length (recorded (now (r .entry))) ⌝ }
@@ -85,7 +85,7 @@ fn put_header(r: &mut [u8], state: usize, used: usize, n: usize)
     octets::put_u32(r, 8, n);
 }
 
-// Starts a recording with no command, whatever r held.
+// Starts a recording with no action, whatever r held.
 pub fn begin(r: &mut [u8])
     requires { ⌜ sized (now r) ≡ true ⌝ }
     ensures { λ _. ⌜ Becomes (begun []) (now (r .entry)) (now (r .exit)) ⌝ }
@@ -101,7 +101,7 @@ pub fn clear(r: &mut [u8])
     put_header(r, 0, 0, 0);
 }
 
-// Whether one command more, with a payload of n bytes, fits: it is at most the 64th, and the
+// Whether one action more, with a payload of n bytes, fits: it is at most the 64th, and the
 // charges stay within the room.
 pub fn fits(r: &[u8], n: usize) -> bool
     requires { ⌜ recordingFine (now r) ≡ true ⌝ }
@@ -117,7 +117,7 @@ pub fn fits(r: &[u8], n: usize) -> bool
     n <= r.len() - (16 + used)
 }
 
-// Adds the command of an ID and a payload behind the last.
+// Adds the action of an ID and a payload behind the last.
 pub fn add(r: &mut [u8], id: u8, payload: &[u8])
     requires { ⌜ Addable (now r) id (now payload) ⌝ }
     ensures { λ _. ⌜ Becomes (extended (now (r .entry)) id (now (payload .entry)))

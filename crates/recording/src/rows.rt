@@ -1,15 +1,15 @@
-// The rows of recorded commands: one row at an offset, and whether bytes are so many whole rows.
+// The rows of recorded actions: one row at an offset, and whether bytes are so many whole rows.
 ghost use mathlib.Core.Path.{_≡_};
 ghost use Prim.Native.Nat.{_+_, _≤_};
 ghost use lib.ListN.{length, drop};
-ghost use Rattle.protocol.specs.Terms.{commandId, payload};
-ghost use Rattle.recording.specs.Command.{commandFine, commandAt, rowSize, rowFine, rowsFine};
+ghost use Rattle.protocol.specs.Terms.{actionId, payload};
+ghost use Rattle.recording.specs.Encoding.{actionFine, actionAt, rowSize, rowFine, rowsFine};
 ghost use Rattle.recording.specs.Region.{rowsOf};
 ghost use Rattle.recording.specs.Contracts.{RowAt};
 
-// Whether a command of this ID can be recorded with a payload of n bytes.
-fn is_command(id: u8, n: usize) -> bool
-    ensures { λ b. ⌜ b ≡ commandFine id n ⌝ }
+// Whether an action of this ID can be recorded with a payload of n bytes.
+fn is_action(id: u8, n: usize) -> bool
+    ensures { λ b. ⌜ b ≡ actionFine id n ⌝ }
 {
     if id == 1 {
         return n <= 255;
@@ -35,7 +35,7 @@ fn row_fine(rows: &[u8], at: usize) -> bool
         return false;
     }
     let n = octets::u24_at(rows, at + 1);
-    if !is_command(rows[at], n) {
+    if !is_action(rows[at], n) {
         return false;
     }
     4 + n <= rows.len() - at
@@ -57,10 +57,10 @@ pub fn rows_fine(rows: &[u8], n: usize) -> bool
     at == rows.len()
 }
 
-// The ID of the command whose row begins at the offset.
+// The ID of the action whose row begins at the offset.
 pub fn id_at(r: &[u8], at: usize) -> u8
     requires { ⌜ RowAt (now r) at ⌝ }
-    ensures { λ id. ⌜ id ≡ commandId (commandAt (drop at (rowsOf (now (r .entry))))) ⌝ }
+    ensures { λ id. ⌜ id ≡ actionId (actionAt (drop at (rowsOf (now (r .entry))))) ⌝ }
 {
     r[12 + at]
 }
@@ -73,10 +73,10 @@ pub fn row_size(r: &[u8], at: usize) -> usize
     4 + octets::u24_at(r, 13 + at)
 }
 
-// The payload of the command whose row begins at the offset, a part of the recording.
+// The payload of the action whose row begins at the offset, a part of the recording.
 pub fn payload_at<'a>(r: &'a [u8], at: usize) -> &'a [u8]
     requires { ⌜ RowAt (now r) at ⌝ }
-    ensures { λ p. ⌜ now p ≡ payload (commandAt (drop at (rowsOf (now (r .entry))))) ⌝ }
+    ensures { λ p. ⌜ now p ≡ payload (actionAt (drop at (rowsOf (now (r .entry))))) ⌝ }
 {
     let n = octets::u24_at(r, 13 + at);
     let from = 16 + at;

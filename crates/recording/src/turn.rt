@@ -1,9 +1,9 @@
-// What the commands before a turn leave for a key.
+// What the actions before a turn leave for a key.
 ghost use mathlib.Core.Path.{_≡_};
 ghost use mathlib.Core.Bool.{true};
 ghost use Prim.Native.Nat.{_+_};
 ghost use Rattle.octets.specs.Order.{same};
-ghost use Rattle.recording.specs.Command.{keyIn};
+ghost use Rattle.recording.specs.Encoding.{keyIn};
 ghost use Rattle.recording.specs.Turn.{bodyAtTurn};
 ghost use Rattle.recording.specs.Contracts.{Until, Candidate, Latest, LastWrite};
 
@@ -47,7 +47,7 @@ fn latest(r: &[u8], at: usize, n: usize, key: &[u8], w: Row) -> Row
     }
 }
 
-// Where the payload of the last WRITE of the key stands, among the commands whose rows begin before
+// Where the payload of the last WRITE of the key stands, among the actions whose rows begin before
 // the offset `until`. `found` is false where there is none: the empty payload of a WRITE that
 // deletes the empty key is found. The contract fixes `found` and the bytes that are named; which
 // place in the region names them is left open, and so is the place where none is found.
@@ -69,7 +69,7 @@ fn last_write(r: &[u8], until: usize, key: &[u8]) -> Row
     w
 }
 
-// The payload of the last WRITE of the key among the commands whose rows begin before the offset
+// The payload of the last WRITE of the key among the actions whose rows begin before the offset
 // `until`, a part of the recording; or else `stored`, where there is no such WRITE. A WRITE that
 // deletes has the key alone as its payload.
 pub fn turn_finds<'a>(recording: &'a [u8], until: usize, stored: &'a [u8], key: &[u8]) -> &'a [u8]

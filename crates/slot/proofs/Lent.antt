@@ -10,20 +10,20 @@ use Rattle.octets.specs.Octets.{Bytes}
 use Rattle.protocol.specs.Terms.{Message}
 use Rattle.protocol.specs.declared.Kind.{Kind}
 use Rattle.message.specs.Forms.{written}
-use Rattle.server.specs.Patterns.{Patterns}
+use Rattle.model.specs.Patterns.{Patterns}
 use Rattle.queue.specs.Meaning.{Queue, owing}
 use Rattle.queue.specs.Region.{InStep, queueOf, room}
 use Rattle.queue.specs.Post.{Outcome}
-use Rattle.recording.specs.Command.{actionOf}
+use Rattle.recording.specs.Encoding.{actionOf}
 use Rattle.recording.specs.Region.{sized}
 use Rattle.recording.specs.Region as recordings
 use Rattle.recording.specs.Contracts as recording
-use Rattle.recording.proofs.Regions.{fine-rules, recorded-commands, on-begun}
+use Rattle.recording.proofs.Regions.{fine-rules, recorded-actions, on-begun}
 use Rattle.subscriptions.specs.Region.{patternsOf}
 use Rattle.subscriptions.specs.Contracts as subscriptions
 use Rattle.subscriptions.proofs.Cells.{length-patternsOf}
 use Rattle.subscriptions.proofs.Cells as cells
-use Rattle.server.specs.State.{begun, Transaction, commandsOf, used, withPatterns, withTransaction, withQueue}
+use Rattle.model.specs.State.{begun, Transaction, actionsIn, used, withPatterns, withTransaction, withQueue}
 use Rattle.slot.specs.Image.{recorded, owed}
 use Rattle.slot.specs.Region.{phaseOf, kindByte, subscriptionsPart, recordingPart, queuePart, kindNumbered, clientOf}
 use Rattle.slot.specs.Region.{reserveOf, ClientRules}
@@ -67,9 +67,9 @@ lent-record {R} {s} {v} {m} h b =
     rw (back-recording R s v (omega (arith, h .rules .sized)) (g .size)) (becomes-recording h g)
 
 recorded-part : {R : ℕ} {s : Bytes} → ClientRules R s
-    → commandsOf (clientOf R s .transaction) ≡ recordings.recorded (recordingPart R s)
+    → actionsIn (clientOf R s .transaction) ≡ recordings.recorded (recordingPart R s)
 unfolding clientOf
-recorded-part {R} {s} w = sym (recorded-commands (recordingPart R s) (w .recording))
+recorded-part {R} {s} w = sym (recorded-actions (recordingPart R s) (w .recording))
 
 room-part : {R : ℕ} {s : Bytes} → ClientRules R s → length (recordingPart R s) - 12 ≡ R
 room-part {R} {s} w = omega (arith, length-recordingPart R s (omega (arith, w .sized)))

@@ -10,7 +10,7 @@ use Rattle.octets.specs.Octets.{Bytes}
 use Rattle.octets.specs.Part.{part}
 use Rattle.octets.proofs.Parts.{length-part}
 use Rattle.protocol.specs.Terms.{Action}
-use Rattle.server.specs.State.{Transaction, begun, isBegun, commandsOf, recordingCharge, recordingFits}
+use Rattle.model.specs.State.{Transaction, begun, isBegun, actionsIn, recordingCharge, recordingFits}
 use Rattle.queue.specs.Meaning.{kept, keptRows, isOverflown}
 use Rattle.queue.specs.Region.{InStep, pendingOf, tail, pendingEnd}
 use Rattle.queue.proofs.Regions.{length-queuedOf, pendingOf-kept, kept-flag}
@@ -73,7 +73,7 @@ unfolding clientOf recordingFits
 client-recording {R} {s} {xs} h e =
     let r = recordingPart R s in
     let w = fine-rules (h .rules .recording) in
-    let g : recordings.recorded r ≡ xs = ap commandsOf (sym (on-begun r (begun-is (transactionOf r) e)) ∙ e) in
+    let g : recordings.recorded r ≡ xs = ap actionsIn (sym (on-begun r (begun-is (transactionOf r) e)) ∙ e) in
     let l : countOf r ≡ length xs = count-recorded r ∙ ap length g in
     let u : usedOf r ≡ recordingCharge xs = used-charge r (h .rules .recording) ∙ ap recordingCharge g in
     and-true-true (le-leb (length xs) 64 (omega (arith, w .few)))

@@ -14,7 +14,7 @@ use Rattle.protocol.specs.Terms.{error}
 use Rattle.protocol.specs.declared.Kind.{Kind}
 use Rattle.protocol.specs.declared.Kind.the-variants.{Packets, Stream, Framed, Text}
 use Rattle.protocol.specs.declared.Refusal.{Refusal}
-use Rattle.server.specs.Patterns.{Patterns}
+use Rattle.model.specs.Patterns.{Patterns}
 use Rattle.message.specs.Forms.{written}
 use Rattle.queue.specs.Rows.{row, rows}
 use Rattle.queue.specs.Meaning as Q
@@ -26,9 +26,9 @@ use Rattle.recording.specs.Contracts as recording
 use Rattle.recording.proofs.Regions as R
 use Rattle.subscriptions.specs.Region.{subscriptionsFine, patternsOf}
 use Rattle.subscriptions.specs.Contracts as subscriptions
-use Rattle.server.specs.State.{Transaction, free, used, newClient, withKind, withPatterns, withTransaction, withQueue}
-use Rattle.server.specs.State.{off}
-use Rattle.server.specs.Queue.{shutBy}
+use Rattle.model.specs.State.{Transaction, free, used, newClient, withKind, withPatterns, withTransaction, withQueue}
+use Rattle.model.specs.State.{off}
+use Rattle.model.specs.Queue.{shutBy}
 use Rattle.slot.specs.Image.{inBytes}
 use Rattle.slot.specs.Image.{refused}
 use Rattle.slot.specs.Region.{phaseOf, kindByte, subscriptionsPart, recordingPart, queuePart, kindNumber, kindNumbered, clientOf}

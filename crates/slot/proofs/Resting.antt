@@ -15,8 +15,8 @@ use Rattle.protocol.specs.declared.Refusal.the-variants.{Room}
 use Rattle.message.specs.Writing.{said}
 use Rattle.message.specs.declared.Message.the-variants.{Info}
 use Rattle.pattern.specs.Answer.{accepted}
-use Rattle.server.specs.Patterns.{Patterns}
-use Rattle.server.specs.Step.{subscribed}
+use Rattle.model.specs.Patterns.{Patterns}
+use Rattle.model.specs.Step.{subscribed}
 use Rattle.queue.specs.Meaning as Q
 use Rattle.queue.specs.Meaning.{Pending, kept, overflown, isOverflown, keptRows}
 use Rattle.queue.specs.Region.{InStep, AtRest, queueOf, pendingOf, pendingEnd, tail}
@@ -24,8 +24,8 @@ use Rattle.queue.proofs.Regions.{at-rest-less, pendingOf-kept, kept-flag}
 use Rattle.recording.proofs.Tests.{either}
 use Rattle.subscriptions.specs.Region.{patternsOf, matching}
 use Rattle.subscriptions.proofs.Lists.{subscribed-matches}
-use Rattle.server.specs.State.{free, used, withQueue}
-use Rattle.server.specs.Events.{onClient}
+use Rattle.model.specs.State.{free, used, withQueue}
+use Rattle.model.specs.Events.{onClient}
 use Rattle.slot.specs.Image.{ClientImage, SlotImage, refused, owed, notified, settledBy, settled}
 use Rattle.slot.specs.Region.{phaseOf, subscriptionsPart, queuePart, clientOf, slotOf}
 use Rattle.slot.specs.Region.{reserveOf, SlotRules}

@@ -17,7 +17,7 @@ use Rattle.recording.specs.Region.{recordingFine, transactionOf}
 use Rattle.recording.specs.Contracts as recording
 use Rattle.subscriptions.specs.Region.{subscriptionsFine, patternsOf}
 use Rattle.subscriptions.specs.Contracts as subscriptions
-use Rattle.server.specs.State.{off, free, used}
+use Rattle.model.specs.State.{off, free, used}
 use Rattle.slot.specs.Image.{ClientImage}
 use Rattle.slot.specs.Region.{phaseOf, kindByte, subscriptionsPart, recordingPart, queuePart, kindNumbered, clientOf, slotOf}
 use Rattle.slot.specs.Region.{reserveOf, ClientRules}

@@ -8,10 +8,10 @@ use lib.Dec.{eqb, leb}
 use lib.ListN.{length}
 use borrow.Author.Tests.{eq-eqb, ne-eqb, eqb-true, eqb-false, le-leb, leb-true}
 use Rattle.octets.specs.Octets.{Bytes}
-use Rattle.server.specs.Patterns.{Patterns}
+use Rattle.model.specs.Patterns.{Patterns}
 use Rattle.queue.specs.Region.{AtRest, queueFine}
 use Rattle.queue.proofs.Regions.{fine-rest, rest-fine, pendingOf-rest}
-use Rattle.server.specs.State.{off, begun, Transaction, isBegun}
+use Rattle.model.specs.State.{off, begun, Transaction, isBegun}
 use Rattle.recording.specs.Region.{recordingFine}
 use Rattle.recording.proofs.Tests.{either, and-both, and-true-true}
 use Rattle.subscriptions.specs.Region.{subscriptionsFine}

@@ -7,14 +7,14 @@ use lib.ListN.{length}
 use lib.Seq.{sets}
 use Rattle.octets.specs.Octets.{Bytes}
 use Rattle.protocol.specs.Terms.{Action, payload}
-use Rattle.server.specs.Patterns.{addPattern, removePattern}
-use Rattle.server.specs.State.{isBegun, commandsOf, recordingFits, free, used, withPatterns}
+use Rattle.model.specs.Patterns.{addPattern, removePattern}
+use Rattle.model.specs.State.{isBegun, actionsIn, recordingFits, free, used, withPatterns}
 use Rattle.queue.specs.Meaning.{kept}
 use Rattle.queue.specs.Rows.{firstLength, firstMessage}
-use Rattle.recording.specs.Command.{actionOf, commandFine}
+use Rattle.recording.specs.Encoding.{actionOf, actionFine}
 use Rattle.recording.specs.Region.{recordingFine}
 use Rattle.subscriptions.specs.Region.{subscriptionsFine}
-use Rattle.server.specs.Queue.{afterTake}
+use Rattle.model.specs.Queue.{afterTake}
 use Rattle.slot.specs.Image.{ClientImage, SlotImage}
 use Rattle.slot.specs.Region.{phaseOf, kindByte, subscriptionsPart, recordingPart, queuePart, clientOf, slotOf}
 use Rattle.slot.specs.Region.{Bare, ClientRules, SlotRules}
@@ -48,7 +48,7 @@ pub record Regions (R : ℕ) (s : Bytes) : Type 0 where
   pub record-room : R ≤ 262144
   pub enough : 4132 + R ≤ length s
 
--- bytes whose regions of patterns and of commands keep their rules
+-- bytes whose regions of patterns and of actions keep their rules
 pub record Regioned (R : ℕ) (s : Bytes) : Type 0 where
   pub enough : 4132 + R ≤ length s
   pub subscriptions : subscriptionsFine (subscriptionsPart s) ≡ true
@@ -84,7 +84,7 @@ abbrev pub Removing : Bytes → Bytes → Bytes → Type 0
 Removing p s s′ =
     (R : ℕ) → HasOpen R s → Becomes R s s′ (used (withPatterns (removePattern p (clientOf R s .patterns)) (clientOf R s)))
 
--- the regions of patterns and of commands are emptied, and the rest of the slot is as it was
+-- the regions of patterns and of actions are emptied, and the rest of the slot is as it was
 pub record Stripping (R : ℕ) (s s′ : Bytes) : Type 0 where
   pub size : length s′ ≡ length s
   pub same-phase : phaseOf s′ ≡ phaseOf s
@@ -100,16 +100,16 @@ pub record Taking (R : ℕ) (s out : Bytes) (n : ℕ) (s′ out′ : Bytes) : Ty
   pub copied : out′ ≡ sets out 0 (firstMessage (clientOf R s .queue .queued))
   pub left : Becomes R s s′ (used (afterTake (clientOf R s)))
 
--- whether a command with a payload of n bytes fits behind those recorded
+-- whether an action with a payload of n bytes fits behind those recorded
 pub record Fits (R : ℕ) (c : ClientImage) (n : ℕ) (b : Bool) : Type 0 where
-  pub value : (a : Action) → length (payload a) ≡ n → b ≡ recordingFits R (commandsOf (c .transaction) ++ (a ∷ []))
+  pub value : (a : Action) → length (payload a) ≡ n → b ≡ recordingFits R (actionsIn (c .transaction) ++ (a ∷ []))
 
--- an open client records, and the command with this ID and payload can be recorded
+-- an open client records, and the action with this ID and payload can be recorded
 pub record Recordable (R : ℕ) (s : Bytes) (id : ℕ) (p : Bytes) : Type 0 where
   pub client : HasOpen R s
   pub on : isBegun (clientOf R s .transaction) ≡ true
-  pub known : commandFine id (length p) ≡ true
-  pub fits : recordingFits R (commandsOf (clientOf R s .transaction) ++ (actionOf id p ∷ [])) ≡ true
+  pub known : actionFine id (length p) ≡ true
+  pub fits : recordingFits R (actionsIn (clientOf R s .transaction) ++ (actionOf id p ∷ [])) ≡ true
 
 -- an open client can add the pattern: at most 255 bytes, and at most the sixteenth
 pub record Addable (R : ℕ) (s p : Bytes) : Type 0 where

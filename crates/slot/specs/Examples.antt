@@ -9,9 +9,9 @@ use Rattle.protocol.specs.declared.Refusal.the-variants.{Room, State}
 use Rattle.message.specs.Forms.{written, encoded, form}
 use Rattle.queue.specs.Rows.{row}
 use Rattle.queue.specs.Meaning.{fits, owed as owedTo, keptRows}
-use Rattle.server.specs.State.{free, newClient, withQueue, withPatterns}
-use Rattle.server.specs.Events.{onClient}
-use Rattle.server.specs.Queue.{shutBy}
+use Rattle.model.specs.State.{free, newClient, withQueue, withPatterns}
+use Rattle.model.specs.Events.{onClient}
+use Rattle.model.specs.Queue.{shutBy}
 use Rattle.slot.specs.Image.{owed, refused, settledBy, settled, notified}
 
 -- a queue room of 1,024 bytes holds a VERSION

@@ -16,10 +16,10 @@ use Rattle.message.specs.declared.Message.the-variants.{Info}
 use Rattle.queue.specs.Meaning as Q
 use Rattle.queue.specs.Meaning.{Pending, kept, overflown, Queue, queueWith, owing}
 use Rattle.queue.specs.Rows.{rows, isEmpty, firstMessage}
-use Rattle.server.specs.Step.{subscribed}
-use Rattle.server.specs.Queueing.{Queueing}
-use Rattle.server.specs.State.{begun, commandsOf, ClientOf, SlotOf, used, withTransaction, withQueue}
-use Rattle.server.specs.Queue.{shutBy}
+use Rattle.model.specs.Step.{subscribed}
+use Rattle.model.specs.Queueing.{Queueing}
+use Rattle.model.specs.State.{begun, actionsIn, ClientOf, SlotOf, used, withTransaction, withQueue}
+use Rattle.model.specs.Queue.{shutBy}
 use Rattle.subscriptions.specs.Region.{matching}
 
 -- a queue as the memory holds it: the untaken messages as bytes, and what is pending. Messages behind it are queued at
@@ -41,9 +41,9 @@ ClientImage = ClientOf inBytes
 abbrev pub SlotImage : Type 0
 SlotImage = SlotOf inBytes
 
--- the client with one command more recorded
+-- the client with one action more recorded
 unfoldable pub recorded : Action → ClientImage → ClientImage
-recorded a c = withTransaction (begun (commandsOf (c .transaction) ++ (a ∷ []))) c
+recorded a c = withTransaction (begun (actionsIn (c .transaction) ++ (a ∷ []))) c
 
 -- shutting, as the simple server does it
 abbrev pub refused : Refusal → ClientImage → ClientImage

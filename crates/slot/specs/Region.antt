@@ -15,7 +15,7 @@ use Rattle.protocol.specs.declared.Kind.the-variants.{Packets, Stream, Framed, 
 use Rattle.queue.specs.Region.{InStep, queueFine, queueOf}
 use Rattle.recording.specs.Region.{recordingFine, transactionOf}
 use Rattle.subscriptions.specs.Region.{subscriptionsFine, patternsOf}
-use Rattle.server.specs.State.{off, isBegun, free, used}
+use Rattle.model.specs.State.{off, isBegun, free, used}
 use Rattle.slot.specs.Image.{ClientImage, SlotImage}
 
 -- ---- the regions

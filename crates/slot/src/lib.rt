@@ -28,7 +28,7 @@ ghost use mathlib.Core.Path.{_≡_};
 ghost use Prim.Native.Nat.{_+_, _≤_};
 ghost use lib.Dec.{eqb};
 ghost use lib.ListN.{length};
-ghost use Rattle.server.specs.State.{used, newClient, withKind};
+ghost use Rattle.model.specs.State.{used, newClient, withKind};
 ghost use Rattle.slot.specs.Region.{phaseOf, kindByte, kindNumber, kindNumbered};
 ghost use Rattle.slot.specs.Contracts.{Sized, Regions, Becomes, Stripping, Closing, Changing};
 
@@ -92,7 +92,7 @@ pub fn close(s: &mut [u8])
     s[0] = 0;
 }
 
-// Empties the regions of patterns and of commands, whatever they hold.
+// Empties the regions of patterns and of actions, whatever they hold.
 fn strip(s: &mut [u8], r: usize)
     requires { ⌜ Regions r (now s) ⌝ }
     ensures { λ _. ⌜ Stripping r (now (s .entry)) (now (s .exit)) ⌝ }

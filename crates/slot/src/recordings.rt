@@ -2,8 +2,8 @@
 ghost use mathlib.Core.Path.{_≡_};
 ghost use mathlib.Core.List.{[]};
 ghost use Prim.Native.Nat.{_+_};
-ghost use Rattle.recording.specs.Command.{actionOf};
-ghost use Rattle.server.specs.State.{off, begun, isBegun, used, withTransaction};
+ghost use Rattle.recording.specs.Encoding.{actionOf};
+ghost use Rattle.model.specs.State.{off, begun, isBegun, used, withTransaction};
 ghost use Rattle.slot.specs.Image.{recorded};
 ghost use Rattle.slot.specs.Region.{clientOf};
 ghost use Rattle.slot.specs.Contracts.{HasClient, HasOpen, Becomes, Fits, Recordable};
@@ -34,7 +34,7 @@ pub fn end_recording(s: &mut [u8], r: usize)
     recording::clear(&mut s[4104..4116 + r]);
 }
 
-// Whether a command with a payload of n bytes fits into the recording.
+// Whether an action with a payload of n bytes fits into the recording.
 pub fn record_fits(s: &[u8], r: usize, n: usize) -> bool
     requires { ⌜ HasClient r (now s) ⌝ }
     ensures { λ b. ⌜ Fits r (clientOf r (now (s .entry))) n b ⌝ }
@@ -42,7 +42,7 @@ pub fn record_fits(s: &[u8], r: usize, n: usize) -> bool
     recording::fits(&s[4104..4116 + r], n)
 }
 
-// Records the command of an ID and a payload.
+// Records the action of an ID and a payload.
 pub fn record(s: &mut [u8], r: usize, id: u8, payload: &[u8])
     requires { ⌜ Recordable r (now s) id (now payload) ⌝ }
     ensures { λ _. ⌜ Becomes r (now (s .entry)) (now (s .exit))

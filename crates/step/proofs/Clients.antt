@@ -6,16 +6,16 @@ use Prim.Native.Nat.{ℕ, _<_}
 use lib.ListN.{length, getD, set}
 use lib.Seq.{getD-set-same, set-getD, set-set}
 use Rattle.octets.specs.Octets.{Bytes}
-use Rattle.server.specs.State.{free, used, slotAt}
-use Rattle.server.specs.Events.{onClient}
+use Rattle.model.specs.State.{free, used, slotAt}
+use Rattle.model.specs.Events.{onClient}
 use Rattle.slot.specs.Image.{ClientImage, SlotImage}
 use Rattle.memory.specs.Image.{Image, imageOf, isUsed, clientIn, isOpen, withSlots, onSlot}
 use Rattle.memory.specs.Rules.{Sound}
 use Rattle.memory.specs.Contracts.{InSlot, InOpen, Changes}
 use Rattle.memory.proofs.Lent.{length-slots}
-use Rattle.service.proofs.Slots.{onClient-same, onClient-onClient}
-use Rattle.service.proofs.Ends.{becomes-same, becomes-as, becomes-sizes, becomes-then}
-use Rattle.service.proofs.Actions.{onClient-equal, onSlot-equal}
+use Rattle.refinement.proofs.Slots.{onClient-same, onClient-onClient}
+use Rattle.refinement.proofs.Ends.{becomes-same, becomes-as, becomes-sizes, becomes-then}
+use Rattle.refinement.proofs.Actions.{onClient-equal, onSlot-equal}
 
 -- ---- images
 

@@ -6,7 +6,7 @@ use native.Mathlib.Numerals.{add-one}
 use native.Mathlib.Omega.{arith}
 use lib.ListN.{length}
 use Rattle.octets.specs.Octets.{Bytes}
-use Rattle.server.specs.Events.{onClient}
+use Rattle.model.specs.Events.{onClient}
 use Rattle.slot.specs.Image.{ClientImage}
 use Rattle.memory.specs.Layout.{sizesOf, stride, slotsStart, slotStart}
 use Rattle.memory.specs.Image.{Image, imageOf, withSlots, onSlot, onSlots}
@@ -14,8 +14,8 @@ use Rattle.memory.specs.Rules.{Sound, Becomes}
 use Rattle.memory.specs.Contracts.{Bounds, ChangesAt}
 use Rattle.memory.proofs.Updates.{slot-within}
 use Rattle.memory.proofs.Lent.{length-slots}
-use Rattle.service.proofs.Ends.{becomes-same, becomes-as, becomes-sizes, becomes-then}
-use Rattle.service.proofs.Events.{upTo, onSlots-start, onSlots-next, onSlots-all}
+use Rattle.refinement.proofs.Ends.{becomes-same, becomes-as, becomes-sizes, becomes-then}
+use Rattle.refinement.proofs.Events.{upTo, onSlots-start, onSlots-next, onSlots-all}
 
 -- the clients of the slots before i are as f makes them, and slot i begins at `at`
 pub record Passed (f : ClientImage → ClientImage) (i at : ℕ) (m m′ : Bytes) : Type 0 where

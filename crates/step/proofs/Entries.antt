@@ -14,7 +14,7 @@ use Rattle.message.specs.declared.Message.the-variants.{Info}
 use Rattle.message.specs.Forms.{encoded, written}
 use Rattle.message.specs.Writing.{said}
 use Rattle.message.proofs.FormLaws.{payload-info}
-use Rattle.server.specs.Store.{Entry, Store, lookup, storeCharge}
+use Rattle.model.specs.Store.{Entry, Store, lookup, storeCharge}
 use Rattle.queue.specs.Meaning.{owing}
 use Rattle.store.specs.Row.{rowSize, bodyLength, bodyOf, rowFine}
 use Rattle.store.specs.Region.{countOf, storeOf}
@@ -24,7 +24,7 @@ use Rattle.store.proofs.Rows.{row-size}
 use Rattle.store.proofs.Region.{length-storeOf, remains-row, remains-behind}
 use Rattle.store.proofs.Change.{found-row, found-none}
 use Rattle.store.proofs.Laws.{row-first}
-use Rattle.server.specs.State.{withQueue}
+use Rattle.model.specs.State.{withQueue}
 use Rattle.slot.specs.Image.{ClientImage, owed}
 use Rattle.memory.specs.Layout.{sizesOf, storePart}
 use Rattle.memory.specs.Image.{imageOf}

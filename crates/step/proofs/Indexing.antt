@@ -1,4 +1,4 @@
--- The index of the store at a turn. An index stays one where the command leaves the store; at a WRITE its offsets are
+-- The index of the store at a turn. An index stays one where the action leaves the store; at a WRITE its offsets are
 -- moved.
 use mathlib.Core.Path.{_≡_, ap, _∙_}
 use mathlib.Core.List.{List}
@@ -8,10 +8,10 @@ use lib.ListN.{take, drop}
 use Rattle.octets.specs.Octets.{Bytes, firstNul}
 use Rattle.octets.proofs.Parts.{length-part}
 use Rattle.protocol.specs.Terms.{Action}
-use Rattle.server.specs.Step.{storeAfter}
+use Rattle.model.specs.Step.{storeAfter}
 use Rattle.command.specs.declared.Written.{Written}
 use Rattle.command.specs.Commands.{Splits}
-use Rattle.recording.specs.Command.{keyIn, valueBehind, writeFrom}
+use Rattle.recording.specs.Encoding.{keyIn, valueBehind, writeFrom}
 use Rattle.infod3.specs.Infod3.{infod3}
 use Rattle.store.specs.Operation.{charge}
 use Rattle.store.specs.Index.{Indexes, Movable, Moved}
@@ -20,7 +20,7 @@ use Rattle.memory.specs.Layout.{sizesOf}
 use Rattle.memory.specs.Image.{Image, imageOf, withStore}
 use Rattle.memory.specs.Rules.{Becomes}
 use Rattle.memory.proofs.Sizes.{ranges}
-use Rattle.service.specs.Turn.{afterTurn}
+use Rattle.refinement.specs.Turn.{afterTurn}
 use Rattle.commit.specs.Tally.{writtenSize}
 use Rattle.commit.proofs.Parts.{writtenSize-charge, writtenSize-le}
 use Rattle.step.specs.TurnParts.{WritingAt, Wrote}
@@ -31,7 +31,7 @@ store-turn : {m m′ : Bytes} (i : ℕ) (a : Action) → Becomes m m′ (afterTu
 unfolding afterTurn withStore
 store-turn i a h = ap (λ (im : Image). im .store) (h .means)
 
--- a command that leaves the store
+-- an action that leaves the store
 pub indexed-kept : {m m′ : Bytes} (i : ℕ) (a : Action) {index : List ℕ}
     → storeAfter a (imageOf m .store) ≡ imageOf m .store → Indexes (imageOf m .store) index
     → Becomes m m′ (afterTurn infod3 i a (imageOf m))

@@ -1,4 +1,4 @@
--- The turn of each command but WRITE, of an open client: what its function asks and what it leaves.
+-- The turn of each action but WRITE, of an open client: what its function asks and what it leaves.
 use mathlib.Core.Path.{_≡_, refl, sym, subst}
 use mathlib.Core.List.{[], _++_}
 use Prim.Native.Nat.{ℕ, _≤_}
@@ -8,21 +8,21 @@ use Rattle.octets.specs.Octets.{Bytes}
 use Rattle.protocol.specs.Terms.{Action, hello, sub, unsub, read, ping, valueTail, version, pong}
 use Rattle.message.specs.declared.Message.the-variants.{Version, Info, Pong}
 use Rattle.message.specs.Writing.{said}
-use Rattle.server.specs.Store.{lookup}
-use Rattle.server.specs.Patterns.{Patterns}
-use Rattle.server.specs.Step.{storeAfter, patternsAfter, refuses, replies, notices, infos}
-use Rattle.recording.specs.Command.{actionOf, writeFrom, commandFine}
-use Rattle.recording.proofs.Packed.{commandFine-short}
+use Rattle.model.specs.Store.{lookup}
+use Rattle.model.specs.Patterns.{Patterns}
+use Rattle.model.specs.Step.{storeAfter, patternsAfter, refuses, replies, notices, infos}
+use Rattle.recording.specs.Encoding.{actionOf, writeFrom, actionFine}
+use Rattle.recording.proofs.Packed.{actionFine-short}
 use Rattle.infod3.specs.Infod3.{infod3}
-use Rattle.server.specs.State.{withPatterns, slotAt}
+use Rattle.model.specs.State.{withPatterns, slotAt}
 use Rattle.slot.specs.Image.{ClientImage, owed, owedAll}
 use Rattle.memory.specs.Image.{imageOf, clientIn}
 use Rattle.memory.specs.Rules.{Becomes}
 use Rattle.memory.specs.Contracts.{InOpen, Changes, Addable, Owing, patternAdded, patternRemoved}
 use Rattle.memory.proofs.Lent.{used-is, open-used, open-not-shut}
-use Rattle.service.specs.Turn.{afterTurn}
-use Rattle.service.proofs.Ends.{becomes-as}
-use Rattle.service.proofs.Actions.{ownTurn, afterTurn-own}
+use Rattle.refinement.specs.Turn.{afterTurn}
+use Rattle.refinement.proofs.Ends.{becomes-as}
+use Rattle.refinement.proofs.Actions.{ownTurn, afterTurn-own}
 use Rattle.step.specs.TurnParts.{refusedIn, Turning, Writing}
 use Rattle.step.proofs.Clients.{changes-equal, changes-sizes, changes-store, changes-then, changes-open}
 use Rattle.step.proofs.Entries.{owed-info}
@@ -35,10 +35,10 @@ module _ {m : Bytes} {i : ℕ} {p : Bytes} where
   turn-as e t = subst (λ (n : ℕ). Turning m i n p) e t
 
   pub turn-short : {id : ℕ} → Turning m i id p → length p ≤ 65535
-  turn-short {id} t = commandFine-short id (length p) (t .known)
+  turn-short {id} t = actionFine-short id (length p) (t .known)
 
   pub turn-addable : Turning m i 1 p → Addable m i p
-  unfolding refusedIn refuses actionOf commandFine
+  unfolding refusedIn refuses actionOf actionFine
   turn-addable t =
       record { in-open = t .in-open; short = leb-true (length p) 255 (t .known); few = ltb-false _ _ (t .allowed) }
 
@@ -59,7 +59,7 @@ action-ping id p a b c d e = rw (ne-eqb id 0 a, ne-eqb id 1 b, ne-eqb id 2 c, ne
 
 -- ---- what they leave
 
--- a command that changes nothing but its own client
+-- an action that changes nothing but its own client
 module _ (m : Bytes) (i : ℕ) (a : Action) (kept : storeAfter a (imageOf m .store) ≡ imageOf m .store)
     (quiet : (ps : Patterns) → notices infod3 a (imageOf m .store) ps ≡ []) where
   own-becomes : InOpen m i → (f : ClientImage → ClientImage)

@@ -11,18 +11,18 @@ use Rattle.protocol.specs.Terms.{Message, valueTail}
 use Rattle.pattern.specs.Answer.{accepted}
 use Rattle.message.specs.declared.Message.the-variants.{Info}
 use Rattle.message.specs.Writing.{said}
-use Rattle.server.specs.Store.{Entry, Store, storeCharge}
-use Rattle.server.specs.Step.{infos}
+use Rattle.model.specs.Store.{Entry, Store, storeCharge}
+use Rattle.model.specs.Step.{infos}
 use Rattle.infod3.specs.Infod3.{infod3}
 use Rattle.store.specs.Row.{rowSize, rowFine}
 use Rattle.store.proofs.Region.{First}
 use Rattle.store.proofs.Split.{charge-append}
-use Rattle.server.specs.State.{withQueue}
+use Rattle.model.specs.State.{withQueue}
 use Rattle.slot.specs.Image.{ClientImage, owed, owedAll}
 use Rattle.memory.specs.Image.{imageOf}
 use Rattle.memory.specs.Rules.{Sound}
 use Rattle.memory.specs.Contracts.{InOpen, Changes, Owing}
-use Rattle.service.proofs.Steps.{either, cond-true, cond-false}
+use Rattle.refinement.proofs.Steps.{either, cond-true, cond-false}
 use Rattle.step.specs.TurnParts.{rowFrom, entryKey, entryInfo, EntryAt, OwingIf}
 use Rattle.step.proofs.Clients.{changes-same, changes-equal, changes-sizes, changes-store, changes-then}
 use Rattle.step.proofs.Clients.{changes-open}

@@ -16,24 +16,24 @@ use Rattle.protocol.specs.Terms.{payload, valueTail}
 use Rattle.command.specs.declared.Written.{Written}
 use Rattle.command.specs.declared.Written.the-variants.{Delete, Value}
 use Rattle.command.proofs.Laws.{firstNul-le, Behind, splits-behind}
-use Rattle.server.specs.Store.{Store, lookup, put, remove, storeAfterWrite, sameValue, changes}
-use Rattle.server.specs.Step.{storeAfter}
-use Rattle.server.proofs.Stores.{unchanged}
-use Rattle.recording.specs.Command.{valueBehind, keyIn, writeFrom, actionOf, readsBack}
-use Rattle.recording.proofs.Commands.{payload-writeFrom, readsBack-actionOf}
+use Rattle.model.specs.Store.{Store, lookup, put, remove, storeAfterWrite, sameValue, changes}
+use Rattle.model.specs.Step.{storeAfter}
+use Rattle.model.proofs.Stores.{unchanged}
+use Rattle.recording.specs.Encoding.{valueBehind, keyIn, writeFrom, actionOf, readsBack}
+use Rattle.recording.proofs.Encodings.{payload-writeFrom, readsBack-actionOf}
 use Rattle.infod3.specs.Infod3.{infod3}
 use Rattle.store.specs.Region.{roomOf, storeFine, storeOf}
 use Rattle.store.specs.Operation.{lower, charge, body, Found, putPayload, Writable}
 use Rattle.store.proofs.Split.{own, storeAfterWrite-split}
 use Rattle.store.proofs.Change.{parts}
 use Rattle.commit.proofs.Parts.{value-delete, value-start}
-use Rattle.server.specs.Events.{onClient}
+use Rattle.model.specs.Events.{onClient}
 use Rattle.slot.specs.Image.{notified}
 use Rattle.memory.specs.Layout.{sizesOf, storePart}
 use Rattle.memory.specs.Image.{Image, imageOf, withStore, withSlots, onSlots}
 use Rattle.memory.specs.Rules.{Becomes}
-use Rattle.service.proofs.Ends.{becomes-same, becomes-as, becomes-then}
-use Rattle.service.proofs.Actions.{afterTurn-write, afterTurn-unchanged}
+use Rattle.refinement.proofs.Ends.{becomes-same, becomes-as, becomes-then}
+use Rattle.refinement.proofs.Actions.{afterTurn-write, afterTurn-unchanged}
 use Rattle.step.specs.TurnParts.{Writing, KeyAt, Wrote, changedBy, NotifyingAll}
 
 -- ---- the payload

@@ -9,30 +9,30 @@ use Rattle.command.specs.declared.Written.{Written}
 use Rattle.command.specs.Commands.{writtenOf}
 use Rattle.message.specs.Writing.{said}
 use Rattle.message.specs.declared.Message.the-variants.{Info}
-use Rattle.server.specs.Store.{Store, storeFits, changes}
-use Rattle.server.specs.Step.{storeAfter, refuses}
+use Rattle.model.specs.Store.{Store, storeFits, changes}
+use Rattle.model.specs.Step.{storeAfter, refuses}
 use Rattle.store.specs.Row.{keyOf, bodyOf, rowFine}
 use Rattle.store.specs.Region.{storeFine}
 use Rattle.store.specs.Operation.{Found}
-use Rattle.recording.specs.Command.{valueBehind, keyIn, writeFrom, actionOf, commandFine}
-use Rattle.server.specs.Events.{onClient}
+use Rattle.recording.specs.Encoding.{valueBehind, keyIn, writeFrom, actionOf, actionFine}
+use Rattle.model.specs.Events.{onClient}
 use Rattle.slot.specs.Image.{owed, notified}
 use Rattle.memory.specs.Layout.{sizesOf, storePart}
 use Rattle.memory.specs.Image.{clientAt, imageOf, onSlots}
 use Rattle.memory.specs.Rules.{Sound, Becomes}
 use Rattle.memory.specs.Contracts.{InOpen, Changes}
 use Rattle.infod3.specs.Infod3.{infod3}
-use Rattle.service.specs.Turn.{afterTurn}
+use Rattle.refinement.specs.Turn.{afterTurn}
 
--- whether a command of slot i is refused with 102
+-- whether an action of slot i is refused with 102
 unfoldable pub refusedIn : Bytes → ℕ → Action → Bool
 refusedIn m i a =
     refuses (imageOf m .sizes .storeRoom) a (imageOf m .store) (clientAt i (imageOf m) .patterns)
 
--- the turn of a command of an open client, which is not refused
+-- the turn of an action of an open client, which is not refused
 pub record Turning (m : Bytes) (i id : ℕ) (p : Bytes) : Type 0 where
   pub in-open : InOpen m i
-  pub known : commandFine id (length p) ≡ true
+  pub known : actionFine id (length p) ≡ true
   pub allowed : refusedIn m i (actionOf id p) ≡ false
 
 -- the turn of a WRITE of the payload, which is not refused

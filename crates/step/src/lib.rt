@@ -1,4 +1,4 @@
-// A step: each command at its turn changes the store and the patterns and owes messages, and at the
+// A step: each action at its turn changes the store and the patterns and owes messages, and at the
 // end every slot is settled. What is read from the store and owed to a client goes through a local
 // buffer, since both lie in the memory.
 ghost use mathlib.Core.Path.{_≡_};
@@ -9,19 +9,19 @@ ghost use Rattle.protocol.specs.Terms.{sub, read};
 ghost use Rattle.pattern.specs.Answer.{accepted};
 ghost use Rattle.store.specs.Region.{storeOf};
 ghost use Rattle.store.specs.Index.{Indexes};
-ghost use Rattle.recording.specs.Command.{actionOf};
+ghost use Rattle.recording.specs.Encoding.{actionOf};
 ghost use Rattle.infod3.specs.Infod3.{infod3};
 ghost use Rattle.memory.specs.Image.{imageOf};
 ghost use Rattle.memory.specs.Rules.{Sound, Becomes};
 ghost use Rattle.memory.specs.Contracts.{Owing};
-ghost use Rattle.service.specs.Turn.{afterTurn, settledImage};
+ghost use Rattle.refinement.specs.Turn.{afterTurn, settledImage};
 ghost use Rattle.step.specs.TurnParts.{Turning, EntryAt, entryKey, entryBody, entryInfo};
 ghost use Rattle.step.specs.TurnParts.{StoredAt, OwingIf, Copied, NotifyingAll};
 ghost use Rattle.step.specs.TurnParts.{Writing, KeyAt, WritingAt, Wrote, changedBy};
 use command::Written;
 use message::Message;
 
-// The turn of a command with this ID and payload, which is not refused. What was an index of the
+// The turn of an action with this ID and payload, which is not refused. What was an index of the
 // store before it is one after it.
 pub fn turn(mem: &mut [u8], slot: usize, id: u8, p: &[u8], index: &mut [usize])
     requires { ⌜ (Turning (now mem) slot id (now p))

@@ -8,7 +8,7 @@ use lib.ListN.{length}
 use Rattle.octets.specs.Octets.{Bytes, ascii}
 use Rattle.octets.specs.Order.{same, before}
 use Rattle.octets.specs.Number.{digits, number, numberAt, bigEndian}
-use Rattle.server.specs.Store.{lookup, storeCharge}
+use Rattle.model.specs.Store.{lookup, storeCharge}
 use Rattle.store.specs.Row.{keyOf, valueOf, entryOf, rowFine}
 use Rattle.store.specs.Region.{rowsOf, follows, rowsFine, storeFine, entries, storeOf}
 use Rattle.store.specs.Operation.{lower, charge, body, fitsWith, storeFitsWith}

@@ -13,10 +13,10 @@ use lib.Seq.{sets, length-sets, length-take-le}
 use Rattle.octets.specs.Octets.{Bytes}
 use Rattle.octets.specs.Part.{part}
 use Rattle.octets.proofs.Parts.{drop-part}
-use Rattle.server.specs.Store.{Entry, lookup, storeAfterWrite, storeCharge, storeFits}
-use Rattle.server.specs.Invariant.{Ascending}
-use Rattle.server.proofs.Tests.{and-left, and-right}
-use Rattle.server.proofs.Stores.{ascending-storeAfterWrite}
+use Rattle.model.specs.Store.{Entry, lookup, storeAfterWrite, storeCharge, storeFits}
+use Rattle.model.specs.Invariant.{Ascending}
+use Rattle.model.proofs.Tests.{and-left, and-right}
+use Rattle.model.proofs.Stores.{ascending-storeAfterWrite}
 use Rattle.store.specs.Row.{keyOf, valueOf, bodyOf, entryOf, rowFine, rowBytes}
 use Rattle.store.specs.Region.{usedOf, countOf, roomOf, rowsOf, headed, storeFine, storeOf}
 use Rattle.store.specs.Operation.{lower, charge, body, Found, rowCount}

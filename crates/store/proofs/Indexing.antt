@@ -11,8 +11,8 @@ use lib.Dec.{leb, eqb}
 use lib.ListN.{length, drop, getD, set, length-set, replicate, length-replicate, getD-replicate}
 use lib.Seq.{getD-set-same, getD-set-other}
 use Rattle.octets.specs.Octets.{Bytes}
-use Rattle.server.specs.Store.{Entry, Store, lookup, storeAfterWrite, storeCharge}
-use Rattle.server.proofs.Tests.{either}
+use Rattle.model.specs.Store.{Entry, Store, lookup, storeAfterWrite, storeCharge}
+use Rattle.model.proofs.Tests.{either}
 use Rattle.store.specs.Region.{storeFine, storeOf}
 use Rattle.store.specs.Operation.{lower, charge, Found}
 use Rattle.store.specs.Index.{Boundary, Indexes, moved, Movable, Moved}

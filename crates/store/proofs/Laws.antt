@@ -15,7 +15,7 @@ use Rattle.octets.specs.Octets.{Bytes}
 use Rattle.octets.specs.Order.{same}
 use Rattle.octets.proofs.Orders.{same-level}
 use Rattle.protocol.specs.Terms.{write, info, valueTail, payload, messagePayload}
-use Rattle.server.specs.Store.{Entry, Store, lookup, storeAfterWrite, storeFits, sameValue, changes}
+use Rattle.model.specs.Store.{Entry, Store, lookup, storeAfterWrite, storeFits, sameValue, changes}
 use Rattle.store.specs.Row.{keyOf, bodyOf, entryOf, rowFine}
 use Rattle.store.specs.Region.{roomOf, storeFine, storeOf}
 use Rattle.store.specs.Operation.{body, Found, storeFitsWith, Payload, putPayload, Writable}

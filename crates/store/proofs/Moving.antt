@@ -7,7 +7,7 @@ use borrow.Author.Tests.{eqb-true, eqb-false, leb-true}
 use lib.Dec.{eqb, leb}
 use lib.ListN.{length, getD, set, length-set}
 use lib.Seq.{getD-set-same, getD-set-other}
-use Rattle.server.proofs.Tests.{either}
+use Rattle.model.proofs.Tests.{either}
 use Rattle.store.specs.Index.{moved, Moved}
 
 -- a row of the same length moves no offset

@@ -13,9 +13,9 @@ use lib.ListN.{length, drop}
 use Rattle.octets.specs.Octets.{Bytes}
 use Rattle.octets.specs.Part.{part}
 use Rattle.octets.proofs.Parts.{length-part, drop-part}
-use Rattle.server.specs.Store.{Entry, Store, storeCharge}
-use Rattle.server.specs.Invariant.{Ascending}
-use Rattle.server.proofs.Tests.{and-left, and-right}
+use Rattle.model.specs.Store.{Entry, Store, storeCharge}
+use Rattle.model.specs.Invariant.{Ascending}
+use Rattle.model.proofs.Tests.{and-left, and-right}
 use Rattle.store.specs.Row.{rowSize}
 use Rattle.store.specs.Region.{usedOf, countOf, rowsOf, storeFine, entries, storeOf}
 use Rattle.store.proofs.Rows.{Row, Rows, row-size, row-front, row-alike, length-rows}

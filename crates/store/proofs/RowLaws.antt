@@ -15,7 +15,7 @@ use Rattle.octets.specs.Number.{numberAt, bigEndian}
 use Rattle.octets.proofs.Laws.{sets-append}
 use Rattle.octets.proofs.Parts.{part-take, part-add, length-part}
 use Rattle.octets.proofs.Numbers.{numberAt-take, numberAt-drop, numberAt-bigEndian-append, length-bigEndian}
-use Rattle.server.proofs.Tests.{either, and-left, and-right}
+use Rattle.model.proofs.Tests.{either, and-left, and-right}
 use Rattle.store.specs.Row.{bodyLength, keyLength, rowSize, keyOf, valueOf, bodyOf, entryOf, rowFine, rowBytes}
 
 -- ---- the test

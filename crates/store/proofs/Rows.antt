@@ -11,10 +11,10 @@ use lib.ListN.{length, take, drop, length-drop}
 use lib.Seq.{take-append-seam, drop-append-le, drop-drop}
 use Rattle.octets.specs.Octets.{Bytes}
 use Rattle.octets.proofs.Parts.{drop-part}
-use Rattle.server.specs.Store.{Entry, Store, storeCharge}
-use Rattle.server.specs.Invariant.{After, Ascending}
-use Rattle.server.proofs.Tests.{and-left, and-right}
-use Rattle.server.proofs.Stores.{after-trans}
+use Rattle.model.specs.Store.{Entry, Store, storeCharge}
+use Rattle.model.specs.Invariant.{After, Ascending}
+use Rattle.model.proofs.Tests.{and-left, and-right}
+use Rattle.model.proofs.Stores.{after-trans}
 use Rattle.store.specs.Row.{rowSize, keyOf, entryOf, rowFine}
 use Rattle.store.specs.Region.{follows, rowsFine, entries}
 use Rattle.store.proofs.RowLaws.{Sound, sound, sound-fine, rowSize-charge, sound-take, entryOf-take, sound-front}

@@ -11,8 +11,8 @@ use Rattle.octets.specs.Part.{part}
 use Rattle.octets.specs.Number.{bigEndian}
 use Rattle.octets.proofs.Parts.{length-part, take-part, drop-part, take-part-drop, part-sets-after, part-sets-moved}
 use Rattle.octets.proofs.Numbers.{numberAt-sets-same, numberAt-sets-before, length-bigEndian}
-use Rattle.server.specs.Store.{Store, storeCharge}
-use Rattle.server.specs.Invariant.{Ascending}
+use Rattle.model.specs.Store.{Store, storeCharge}
+use Rattle.model.specs.Invariant.{Ascending}
 use Rattle.store.specs.Row.{rowSize}
 use Rattle.store.specs.Region.{usedOf, countOf, rowsOf, headed}
 use Rattle.store.specs.Operation.{Becomes}

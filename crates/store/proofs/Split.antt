@@ -15,10 +15,10 @@ use Rattle.octets.specs.Order.{same, before, order}
 use Rattle.octets.specs.declared.comparison.Order.{Order}
 use Rattle.octets.specs.declared.comparison.Order.the-variants.{Less, Equal, Greater}
 use Rattle.octets.proofs.Orders.{Ordered, less, equal, greater, ordered, same-refl, ne-same, before-irrefl, before-asym}
-use Rattle.server.specs.Store.{Entry, Store, lookup, put, remove, storeAfterWrite, storeCharge, storeFits}
-use Rattle.server.specs.Invariant.{After, Ascending}
-use Rattle.server.proofs.Tests.{either, never}
-use Rattle.server.proofs.Stores.{after-trans, lookup-after}
+use Rattle.model.specs.Store.{Entry, Store, lookup, put, remove, storeAfterWrite, storeCharge, storeFits}
+use Rattle.model.specs.Invariant.{After, Ascending}
+use Rattle.model.proofs.Tests.{either, never}
+use Rattle.model.proofs.Stores.{after-trans, lookup-after}
 use Rattle.store.specs.Operation.{lower, charge, rowCount, fitsWith}
 
 abbrev pub entry : Bytes → Bytes → Entry

@@ -12,10 +12,10 @@ use Rattle.octets.specs.Octets.{Bytes}
 use Rattle.octets.specs.Order.{before, order}
 use Rattle.octets.specs.declared.comparison.Order.the-variants.{Less, Equal, Greater}
 use Rattle.octets.proofs.Orders.{order-less, order-equal, order-greater, before-trans}
-use Rattle.server.specs.Store.{Entry, Store, lookup, storeCharge}
-use Rattle.server.specs.Invariant.{After, Ascending}
-use Rattle.server.proofs.Tests.{and-left, and-right}
-use Rattle.server.proofs.Stores.{lookup-after}
+use Rattle.model.specs.Store.{Entry, Store, lookup, storeCharge}
+use Rattle.model.specs.Invariant.{After, Ascending}
+use Rattle.model.proofs.Tests.{and-left, and-right}
+use Rattle.model.proofs.Stores.{lookup-after}
 use Rattle.store.specs.Row.{rowSize, keyOf, entryOf, rowFine}
 use Rattle.store.specs.Region.{usedOf, storeFine, storeOf}
 use Rattle.store.specs.Operation.{lower, charge, Found}

@@ -12,8 +12,8 @@ use lib.ListN.{length, drop, length-drop}
 use lib.Seq.{drop-drop}
 use Rattle.octets.specs.Octets.{Bytes}
 use Rattle.octets.specs.Order.{before}
-use Rattle.server.specs.Store.{Store, storeCharge}
-use Rattle.server.proofs.Tests.{either}
+use Rattle.model.specs.Store.{Store, storeCharge}
+use Rattle.model.proofs.Tests.{either}
 use Rattle.store.specs.Row.{rowSize, keyOf, entryOf, rowFine}
 use Rattle.store.specs.Region.{follows, keyBefore, keyFollows, rowsFine, entries}
 use Rattle.store.specs.Index.{Boundary}

@@ -8,7 +8,7 @@ use lib.Dec.{leb, ltb}
 use lib.ListN.{length, drop, getD}
 use Rattle.octets.specs.Octets.{Bytes}
 use Rattle.octets.specs.Order.{before}
-use Rattle.server.specs.Store.{Store, storeCharge}
+use Rattle.model.specs.Store.{Store, storeCharge}
 use Rattle.store.specs.Row.{keyOf}
 use Rattle.store.specs.Region.{usedOf, storeOf}
 

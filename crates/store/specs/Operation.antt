@@ -9,7 +9,7 @@ use lib.Dec.{leb}
 use lib.ListN.{length, take, drop, getD}
 use Rattle.octets.specs.Octets.{Bytes}
 use Rattle.octets.specs.Order.{before}
-use Rattle.server.specs.Store.{Store, lookup, put, remove, storeCharge, storeFits}
+use Rattle.model.specs.Store.{Store, lookup, put, remove, storeCharge, storeFits}
 use Rattle.store.specs.Region.{usedOf, countOf, roomOf, storeFine, storeOf}
 
 -- the entries at the front whose keys come before k

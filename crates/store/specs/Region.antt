@@ -13,7 +13,7 @@ use Rattle.octets.specs.Octets.{Bytes}
 use Rattle.octets.specs.Part.{part}
 use Rattle.octets.specs.Number.{numberAt, bigEndian}
 use Rattle.octets.specs.Order.{before}
-use Rattle.server.specs.Store.{Store}
+use Rattle.model.specs.Store.{Store}
 use Rattle.store.specs.Row.{rowFine, rowSize, keyOf, entryOf}
 
 -- the used bytes of the room

@@ -11,7 +11,7 @@ use lib.ListN.{length, getD}
 use Rattle.octets.specs.Octets.{Bytes}
 use Rattle.octets.specs.Part.{part}
 use Rattle.octets.specs.Number.{numberAt, bigEndian}
-use Rattle.server.specs.Store.{Entry}
+use Rattle.model.specs.Store.{Entry}
 
 -- the length of the body: key, NUL and value
 abbrev pub bodyLength : Bytes → ℕ

@@ -5,7 +5,7 @@ use mathlib.Core.List.{_++_}
 use mathlib.Core.Bool.{Bool, true, false}
 use lib.ListN.{length, drop}
 use Rattle.octets.specs.Octets.{Bytes}
-use Rattle.server.specs.Store.{Store, storeCharge}
+use Rattle.model.specs.Store.{Store, storeCharge}
 use Rattle.store.specs.Row.{rowFine}
 use Rattle.store.specs.Region.{keyBefore, rowsFine, entries}
 

@@ -11,8 +11,8 @@ use Rattle.octets.specs.Order.{same}
 use Rattle.octets.specs.Table.{rows}
 use Rattle.pattern.specs.Answer.{accepted}
 use Rattle.protocol.specs.Terms.{Protocol}
-use Rattle.server.specs.Patterns.{Patterns, held}
-use Rattle.server.specs.Step.{subscribed}
+use Rattle.model.specs.Patterns.{Patterns, held}
+use Rattle.model.specs.Step.{subscribed}
 use Rattle.subscriptions.specs.Region.{cell, cellAt, countOf, patternsOf, matching}
 use Rattle.subscriptions.proofs.Cells.{rows-cons}
 

@@ -15,7 +15,7 @@ use Rattle.octets.specs.Table.{rows}
 use Rattle.octets.proofs.Parts.{length-part, part-sets-within, part-sets-same, drop-sets, take-part-drop}
 use Rattle.octets.proofs.Numbers.{numberAt-sets-same, length-bigEndian}
 use Rattle.octets.proofs.Tables.{table-sets-after}
-use Rattle.server.specs.Patterns.{Patterns, held, addPattern, removePattern}
+use Rattle.model.specs.Patterns.{Patterns, held, addPattern, removePattern}
 use Rattle.subscriptions.specs.Region.{cell, cellAt, countOf, patternsOf, subscriptionsFine}
 use Rattle.subscriptions.specs.Contracts.{Becomes, Addable, Places, Kept, dropped, kept}
 use Rattle.subscriptions.proofs.Cells.{fine-rules, rules-fine, length-patternsOf, cell-sets, rows-cons}

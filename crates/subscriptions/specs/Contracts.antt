@@ -7,7 +7,7 @@ use lib.Seq.{sets}
 use Rattle.octets.specs.Octets.{Bytes}
 use Rattle.octets.specs.Order.{same}
 use Rattle.octets.specs.Part.{part}
-use Rattle.server.specs.Patterns.{Patterns, addPattern}
+use Rattle.model.specs.Patterns.{Patterns, addPattern}
 use Rattle.subscriptions.specs.Region.{cellAt, patternsOf, subscriptionsFine}
 
 -- an operation on the region s leaves s′: a fine region of the same length that means ps

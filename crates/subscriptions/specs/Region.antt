@@ -14,7 +14,7 @@ use Rattle.octets.specs.Number.{numberAt}
 use Rattle.octets.specs.Table.{rows}
 use Rattle.pattern.specs.Answer.{accepted}
 use Rattle.protocol.specs.Terms.{Protocol, incomplete}
-use Rattle.server.specs.Patterns.{Patterns}
+use Rattle.model.specs.Patterns.{Patterns}
 
 -- the pattern of a cell
 unfoldable pub cell : Bytes → Bytes

@@ -8,8 +8,8 @@ ghost use mathlib.Core.List.{[]};
 ghost use mathlib.Core.Bool.{true};
 ghost use Prim.Native.Nat.{_+_};
 ghost use lib.ListN.{length};
-ghost use Rattle.server.specs.Patterns.{held, addPattern, removePattern};
-ghost use Rattle.server.specs.Step.{subscribed};
+ghost use Rattle.model.specs.Patterns.{held, addPattern, removePattern};
+ghost use Rattle.model.specs.Step.{subscribed};
 ghost use Rattle.subscriptions.specs.Region.{cellAt, patternsOf, subscriptionsFine, matching};
 ghost use Rattle.subscriptions.specs.Contracts.{Becomes, Addable, CellOf, Places, Kept};
 

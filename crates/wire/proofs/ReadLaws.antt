@@ -15,7 +15,7 @@ use Rattle.protocol.specs.declared.Kind.{Kind}
 use Rattle.protocol.specs.declared.Kind.the-variants.{Packets, Stream, Framed, Text}
 use Rattle.protocol.specs.declared.Refusal.{Refusal}
 use Rattle.protocol.specs.declared.Refusal.the-variants.{Room}
-use Rattle.protocol.specs.Terms.{Action, commandId, plain, command, whole}
+use Rattle.protocol.specs.Terms.{Action, actionId, plain, command, whole}
 use Rattle.protocol.specs.Terms as Terms
 use Rattle.framing.specs.Framing.{kindOf, endsLine, messageLength}
 use Rattle.framing.specs.Framing as Framing
@@ -137,7 +137,7 @@ module _ (k : Kind) (m buf buf′ : Bytes) where
 
 -- a plain command is sound
 abbrev SoundPlain : Bytes → Command₁ → Type 0
-SoundPlain p c = (a : Action) → meant p c ≡ command (plain a) → SoundAction (commandId a) p a
+SoundPlain p c = (a : Action) → meant p c ≡ command (plain a) → SoundAction (actionId a) p a
 
 refused-sound : (p : Bytes) (r : Refusal) → SoundPlain p (Refused r)
 unfolding meant
@@ -178,7 +178,7 @@ module _ (k : Kind) {m buf buf′ : Bytes} where
 
   -- a plain command that was read is sound
   pub read-sound : {c : Command₁} {n : ℕ} → Reads k m buf (Command c n) buf′ → (a : Action)
-      → meant (payloadPart k m buf′ n) c ≡ command (plain a) → SoundAction (commandId a) (payloadPart k m buf′ n) a
+      → meant (payloadPart k m buf′ n) c ≡ command (plain a) → SoundAction (actionId a) (payloadPart k m buf′ n) a
   read-sound {c} {n} w = command-in (kindOf k m) m buf buf′ SoundPlain refused-sound commandOf-sound c n w
 
   -- a WRITE that was read has the parts of its payload

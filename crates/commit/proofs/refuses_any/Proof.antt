@@ -3,7 +3,7 @@ use mathlib.Core.Path.{_≡_, ap}
 use Prim.Native.Nat.{ℕ, _+_, _-_, _<_}
 use native.Mathlib.Omega.{arith}
 use lib.ListN.{length, drop}
-use Rattle.recording.specs.Command.{rowSize}
+use Rattle.recording.specs.Encoding.{rowSize}
 use Rattle.recording.specs.Region.{rowsOf, recorded}
 use Rattle.recording.proofs.Walks.{row-here, walk-row}
 use Rattle.subscriptions.proofs.Cells.{fine-rules}
@@ -12,7 +12,7 @@ use borrow.Author.Needs.{needs}
 use Rattle.commit.proofs.refuses_any.Statement.{statement}
 use Rattle.commit.proofs.refuses_any.Tie as tie
 
--- The first i commands are gone through, and `at` is the offset of the next one.
+-- The first i actions are gone through, and `at` is the offset of the next one.
 abbrev Inv-loop : tie.InvT-loop
 Inv-loop store index recording patterns₀ n t₀ at₀ i₀ patterns t at i = Trying store recording patterns₀ t at i patterns
 

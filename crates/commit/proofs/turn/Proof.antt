@@ -2,7 +2,7 @@
 use Prim.Native.Nat.{_-_}
 use Rattle.store.specs.Region.{roomOf}
 use Rattle.commit.specs.Contracts.{storeBefore}
-use Rattle.commit.proofs.Steps.{row-command, row-known, row-write, turn-place, write-short}
+use Rattle.commit.proofs.Steps.{row-action, row-known, row-write, turn-place, write-short}
 use borrow.Author.Needs.{needs}
 use Rattle.commit.proofs.turn.Statement.{statement}
 use Rattle.commit.proofs.turn.Tie as tie
@@ -50,7 +50,7 @@ returns-2 c =
     let p = c .before .before .before .before .before .payload-at in
     let st = A .store .now in
     let r = A .recording .now in
-    rw (row-command r (A .at) (g .row) (i .result) _ (i .ensures) (p .ensures))
+    rw (row-action r (A .at) (g .row) (i .result) _ (i .ensures) (p .ensures))
     (c .before .before .pattern-turn .ensures .value (roomOf st) (storeBefore st r (A .at)) (g .tally))
 
 pub turn-spec : {M : Type 1} → statement M

@@ -4,7 +4,7 @@ use native.Mathlib.Omega.{arith}
 use mathlib.Core.Bool.{_&&_}
 use borrow.Author.Tests.{not-true, not-false}
 use Rattle.octets.specs.Part.{part}
-use Rattle.recording.specs.Command.{rowsFine}
+use Rattle.recording.specs.Encoding.{rowsFine}
 use Rattle.recording.specs.Region.{stateOf, usedOf, countOf, rowsOf, recordingFine}
 use Rattle.recording.proofs.Checks.{fine-small, fine-large, fine-over, fine-many, fine-rest}
 use borrow.Author.Needs.{needs}

@@ -8,8 +8,8 @@ use lib.ListN.{length}
 use Rattle.octets.specs.Octets.{firstNul}
 use Rattle.command.specs.declared.Written.the-variants.{Value}
 use Rattle.command.proofs.Laws.{Behind}
-use Rattle.server.specs.Store.{lookup}
-use Rattle.recording.specs.Command.{keyIn}
+use Rattle.model.specs.Store.{lookup}
+use Rattle.recording.specs.Encoding.{keyIn}
 use Rattle.store.specs.Region.{storeOf}
 use Rattle.store.specs.Operation.{charge, bodyFound}
 use Rattle.store.proofs.Change.{found-row, found-none}

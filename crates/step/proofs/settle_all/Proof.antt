@@ -5,7 +5,7 @@ use native.Mathlib.Omega.{arith}
 use borrow.Author.Needs.{needs}
 use Rattle.slot.specs.Image.{settled}
 use Rattle.memory.specs.Layout.{sizesOf}
-use Rattle.service.specs.Turn.{settledImage}
+use Rattle.refinement.specs.Turn.{settledImage}
 use Rattle.step.proofs.Each.{Passed, passed-start, passed-within, passed-bounds, passed-next, passed-all}
 use Rattle.step.proofs.settle_all.Statement.{statement}
 use Rattle.step.proofs.settle_all.Tie as tie

@@ -2,8 +2,8 @@
 use mathlib.Core.Path.{refl}
 use borrow.Author.Needs.{needs}
 use Rattle.protocol.specs.Terms.{hello, sub, unsub, read, ping}
-use Rattle.server.specs.Step.{storeAfter}
-use Rattle.recording.specs.Command.{actionOf}
+use Rattle.model.specs.Step.{storeAfter}
+use Rattle.recording.specs.Encoding.{actionOf}
 use Rattle.step.proofs.Turns.{turn-as, turn-short, turn-writing, action-ping}
 use Rattle.step.proofs.Turns.{hello-becomes, unsub-becomes, ping-becomes}
 use Rattle.step.proofs.Indexing.{indexed-kept}

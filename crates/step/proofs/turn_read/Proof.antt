@@ -9,7 +9,7 @@ use Rattle.memory.specs.Layout.{sizesOf, storePart}
 use Rattle.memory.specs.Image.{imageOf}
 use Rattle.memory.specs.Rules.{Becomes}
 use Rattle.memory.specs.Contracts.{Owing}
-use Rattle.service.specs.Turn.{afterTurn}
+use Rattle.refinement.specs.Turn.{afterTurn}
 use Rattle.step.specs.TurnParts.{EntryAt, entryBody, entryInfo}
 use Rattle.step.proofs.Entries.{found-entry, found-body, found-size, absent-body}
 use Rattle.step.proofs.Turns.{turn-short, read-becomes}

@@ -6,8 +6,8 @@ use lib.ListN.{take}
 use borrow.Author.Tests.{not-true, not-false}
 use borrow.Author.Needs.{needs}
 use Rattle.octets.specs.Octets.{Bytes}
-use Rattle.server.specs.Step.{storeAfter}
-use Rattle.recording.specs.Command.{keyIn, writeFrom}
+use Rattle.model.specs.Step.{storeAfter}
+use Rattle.recording.specs.Encoding.{keyIn, writeFrom}
 use Rattle.memory.specs.Image.{imageOf, withStore}
 use Rattle.memory.specs.Rules.{Becomes}
 use Rattle.step.specs.TurnParts.{KeyAt, changedBy}

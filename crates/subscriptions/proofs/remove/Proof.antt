@@ -3,7 +3,7 @@ use Prim.Native.Nat.{_-_}
 use native.Mathlib.Omega.{arith}
 use lib.ListN.{length}
 use Rattle.subscriptions.specs.Region.{countOf, patternsOf}
-use Rattle.server.specs.Patterns.{removePattern}
+use Rattle.model.specs.Patterns.{removePattern}
 use Rattle.subscriptions.proofs.Cells.{fine-rules}
 use Rattle.subscriptions.proofs.Removing.{Sifted, becomes-headed, sift-start, sift-places, sift-next, sift-end}
 use Rattle.subscriptions.proofs.remove.Statement.{statement}

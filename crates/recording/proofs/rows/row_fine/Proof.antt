@@ -6,7 +6,7 @@ use lib.Dec.{leb}
 use borrow.Author.Tests.{not-true, not-false}
 use lib.ListN.{length, drop, length-drop}
 use Rattle.octets.specs.Number.{numberAt}
-use Rattle.recording.specs.Command.{rowFine}
+use Rattle.recording.specs.Encoding.{rowFine}
 use Rattle.recording.proofs.Checks.{rowFine-short, rowFine-at}
 use borrow.Author.Needs.{needs}
 use Rattle.recording.proofs.rows.row_fine.Statement.{statement}
@@ -17,11 +17,11 @@ returns c =
     sym (rowFine-short (drop (c .before .before .args .at) (c .before .before .args .rows .now))
     (rw length-drop (omega arith)))
 
--- with the head in front, the command and the size decide
-long : (c : tie.After-is-command)
+-- with the head in front, the action and the size decide
+long : (c : tie.After-is-action)
     → rowFine (drop (c .before .before .before .before .before .args .at)
     (c .before .before .before .before .before .args .rows .now))
-    ≡ c .is-command .result && leb (4 + c .before .before .u24-at .result)
+    ≡ c .is-action .result && leb (4 + c .before .before .u24-at .result)
     (length
     (c .before .before .before .before .before .args .rows .now) - c .before .before .before .before .before .args .at)
 long c =
@@ -31,13 +31,13 @@ long c =
     let h : at + 4 ≤ length s = omega arith in
     let v : numberAt 3 s (at + 1) ≡ c .before .before .u24-at .result =
     sym (c .before .before .u24-at .ensures .value) in
-    rowFine-at s at h ∙ rw (v, c .is-command .ensures)
+    rowFine-at s at h ∙ rw (v, c .is-action .ensures)
 
 returns-2 : tie.Need-returns-2
-returns-2 c = sym (long (c .before) ∙ rw (not-true (c .before .is-command .result) (c .if2 .taken)))
+returns-2 c = sym (long (c .before) ∙ rw (not-true (c .before .is-action .result) (c .if2 .taken)))
 
 returns-3 : tie.Need-returns-3
-returns-3 c = sym (long (c .before) ∙ rw (not-false (c .before .is-command .result) (c .if2 .left)))
+returns-3 c = sym (long (c .before) ∙ rw (not-false (c .before .is-action .result) (c .if2 .left)))
 
 pub row-fine-spec : {M : Type 1} → statement M
 row-fine-spec =

@@ -5,7 +5,7 @@ use native.Mathlib.Omega.{arith}
 use lib.ListN.{length, drop, length-drop}
 use borrow.Author.Tests.{not-true, not-false}
 use Rattle.octets.proofs.Numbers.{numberAt-drop}
-use Rattle.recording.specs.Command.{rowSize, rowFine}
+use Rattle.recording.specs.Encoding.{rowSize, rowFine}
 use Rattle.recording.proofs.Packed.{Whole, rowFine-whole}
 use Rattle.recording.proofs.Checks.{Checked, check-start, check-broken, check-next, check-end}
 use Rattle.recording.proofs.rows.rows_fine.Statement.{statement}

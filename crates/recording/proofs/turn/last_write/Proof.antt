@@ -2,7 +2,7 @@ use mathlib.Core.Path.{_≡_}
 use Prim.Native.Nat.{_+_, _-_}
 use native.Mathlib.Omega.{arith}
 use lib.ListN.{drop}
-use Rattle.recording.specs.Command.{rowSize}
+use Rattle.recording.specs.Encoding.{rowSize}
 use Rattle.recording.specs.Region.{rowsOf}
 use Rattle.recording.specs.Contracts.{RowAt}
 use Rattle.recording.proofs.Walks.{Here, row-here}

@@ -1,6 +1,6 @@
 use mathlib.Core.Path.{sym, ap, _∙_}
 use lib.Seq.{length-take-le}
-use Rattle.server.specs.State.{used}
+use Rattle.model.specs.State.{used}
 use Rattle.slot.specs.Contracts.{roomOf}
 use Rattle.slot.proofs.Slots.{slotOf-used}
 use Rattle.slot.proofs.Operations.{open-client}

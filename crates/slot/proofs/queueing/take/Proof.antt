@@ -1,5 +1,5 @@
-use Rattle.server.specs.Queue.{afterTake}
-use Rattle.server.specs.State.{withQueue}
+use Rattle.model.specs.Queue.{afterTake}
+use Rattle.model.specs.State.{withQueue}
 use Rattle.slot.specs.Region.{clientOf, phaseOf, reserveOf}
 use Rattle.slot.proofs.Operations.{lent-queue}
 use Rattle.slot.proofs.Lent.{lent-queued}

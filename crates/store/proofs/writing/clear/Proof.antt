@@ -3,7 +3,7 @@ use mathlib.Core.Path.{refl}
 use mathlib.Core.List.{[]}
 use native.Mathlib.Omega.{arith}
 use borrow.Author.Needs.{needs}
-use Rattle.server.specs.Invariant.{Ascending}
+use Rattle.model.specs.Invariant.{Ascending}
 use Rattle.store.proofs.Rows.{Rows}
 use Rattle.store.proofs.Splice.{length-headed, represents-headed, becomes}
 use Rattle.store.proofs.writing.clear.Statement.{statement}

@@ -8,7 +8,7 @@ use borrow.Author.Needs.{needs}
 use lib.Seq.{sets}
 use Rattle.octets.specs.Octets.{Bytes}
 use Rattle.octets.specs.Part.{part}
-use Rattle.server.specs.Store.{storeAfterWrite}
+use Rattle.model.specs.Store.{storeAfterWrite}
 use Rattle.store.specs.Region.{usedOf, countOf, headed}
 use Rattle.store.proofs.Rows.{Rows}
 use Rattle.store.proofs.Split.{own}

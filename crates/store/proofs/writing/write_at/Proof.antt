@@ -9,7 +9,7 @@ use lib.ListN.{length, take, drop}
 use lib.Seq.{sets}
 use Rattle.octets.specs.Octets.{Bytes}
 use Rattle.octets.specs.Part.{part}
-use Rattle.server.specs.Store.{storeAfterWrite}
+use Rattle.model.specs.Store.{storeAfterWrite}
 use Rattle.store.specs.Row.{rowBytes}
 use Rattle.store.specs.Region.{usedOf, countOf, headed}
 use Rattle.store.specs.Operation.{putPayload}

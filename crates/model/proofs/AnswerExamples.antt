@@ -91,15 +91,16 @@ answer-examples =
       queue-0 = [];
       queue-1 = [];
     }
-    -- a slot free or N or more is 2; an incomplete message is 1; a shut client is 3, and its messages may still be
-    -- taken
+    -- a slot free or N or more is 2; an incomplete message is 1; a shut client is 3, also with an incomplete one, and
+    -- its messages may still be taken
     ∷ record {
       sizes = small;
       lines =
           host (feeds 2 []) ∷ host (takes 7 9) ∷ host (closes 2) ∷ host (feeds 0 []) ∷ (0 says ping A) ∷
           (0 sends invalid Unknown)
-          ∷ (0 says ping A) ∷ host (takes 0 9) ∷ host (closes 1) ∷ host (closes 1) ∷ host (feeds 1 []) ∷ [];
-      answers = 2 ∷ 2 ∷ 2 ∷ 1 ∷ 0 ∷ 100 ∷ 3 ∷ 0 ∷ 0 ∷ 2 ∷ 2 ∷ [];
+          ∷ (0 says ping A) ∷ host (feeds 0 []) ∷ host (takes 0 9) ∷ host (closes 1) ∷ host (closes 1) ∷ host
+          (feeds 1 []) ∷ [];
+      answers = 2 ∷ 2 ∷ 2 ∷ 1 ∷ 0 ∷ 100 ∷ 3 ∷ 3 ∷ 0 ∷ 0 ∷ 2 ∷ 2 ∷ [];
       queue-0 = error Unknown ∷ [];
       queue-1 = [];
     }

@@ -1,4 +1,5 @@
--- What each call decides, case by case: the equations by which the code of a call is compared with the simple server.
+-- What each call decides, case by case, as equations: by them the broker's calls are compared with the simple server
+-- over the memory's image, and theorems on commits and on single actions cite them.
 use mathlib.Core.Path.{_≡_, _∙_}
 use mathlib.Core.List.{List, [], _∷_, _++_}
 use mathlib.Core.Bool.{true, false}

@@ -19,6 +19,7 @@ pub mod Errors
 pub mod Informing
 pub mod LastInfos
 pub mod Decisions
+pub mod Orders
 pub mod Answers
 pub mod Together
 pub mod Continues

@@ -1,16 +1,16 @@
 -- A memory that holds a state of the simple server: each call gives what the simple server gives, and leaves a memory
--- that holds its next state. So for every list of calls.
+-- that holds its next state. So for every list of calls. A take writes its message alone (`takes-behind`).
 use mathlib.Core.Path.{_≡_, refl, sym, ap, ap₂, _∙_}
 use mathlib.Core.List.{List, [], _∷_}
 use mathlib.Core.Bool.{Bool, true, _&&_}
 use Prim.Native.Nat.{ℕ, _≤_, _<_}
 use native.Mathlib.Omega.{arith}
 use lib.Dec.{leb}
-use lib.ListN.{length, take}
+use lib.ListN.{length, take, drop}
 use lib.Seq.{sets}
 use borrow.Author.Tests.{leb-true}
 use Rattle.octets.specs.Octets.{Bytes}
-use Rattle.octets.proofs.Parts.{part-sets-same}
+use Rattle.octets.proofs.Parts.{drop-sets, part-sets-same}
 use Rattle.protocol.specs.Terms.{Protocol}
 use Rattle.model.specs.Queueing.{queueCharge}
 use Rattle.model.specs.State.{Sizes, inRange, Slot, free, used, State, slotAt}
@@ -22,11 +22,11 @@ use Rattle.model.specs.Lawful.{Lawful}
 use Rattle.model.specs.Invariant.{Invariant, SlotInvariant}
 use Rattle.model.proofs.Invariants.{invariant-serve}
 use Rattle.model.proofs.Answers.{silent-bytes, take-count}
-use Rattle.model.proofs.Tests.{and-left, and-right}
+use Rattle.model.proofs.Tests.{by-test, and-left, and-right}
 use Rattle.memory.specs.Image.{Image, imageOf}
 use Rattle.memory.specs.Rules.{memoryFine}
 use Rattle.refinement.specs.Represents.{stateImage}
-use Rattle.refinement.specs.Contracts.{broken, Represents, replyTo, imageAfter, Serves, Step}
+use Rattle.refinement.specs.Contracts.{broken, Represents, replyTo, imageAfter, Serves, Takes, Step}
 use Rattle.refinement.specs.Contracts.{served, took, Run, none-left, next}
 use Rattle.refinement.proofs.Steps.{cond-true}
 use Rattle.refinement.proofs.Images.{Short, no-message, one-more, decide-image, afterEvent-image}
@@ -47,6 +47,23 @@ queue-most z h =
     let b = and-right (leb 256 (z .storeRoom) && leb (z .storeRoom) 1048576) _ a in
     let c = and-left (leb 1024 (z .queueRoom) && leb (z .queueRoom) 1048576) _ b in
     leb-true (z .queueRoom) 1048576 (and-right (leb 1024 (z .queueRoom)) (leb (z .queueRoom) 1048576) c)
+
+module _ (P : Protocol) where
+  -- a take's message, from the memory that it is lent: as many bytes as its count says
+  taken-count : (i : ℕ) (m : Bytes) (len : ℕ)
+      → replyTo P (takes i len) m .count ≡ length (replyTo P (takes i len) m .bytes)
+  unfolding replyTo serve
+  taken-count i m len =
+      by-test (λ (r : Reply). r .count ≡ length (r .bytes)) (memoryFine m) {y = broken}
+      (λ e. take-count P (imageOf m) i len .0) (λ e. refl)
+
+  -- a take leaves the bytes of its out slice behind the message as they were
+  pub takes-behind : {i answer count : ℕ} {m out m′ out′ : Bytes} → Takes P i m out answer count m′ out′
+      → drop count out′ ≡ drop count out
+  takes-behind {i} {count = count} {m = m} {out = out} s =
+      let r : Reply = replyTo P (takes i (length out)) m in
+      let c : count ≡ length (r .bytes) = s .serves .counted ∙ taken-count i m (length out) in
+      ap (drop count) (s .written) ∙ drop-sets out 0 (r .bytes) count (omega (arith, c))
 
 module _ (P : Protocol) (valid : Bytes → Bool) (lawful : Lawful P valid) where
   short-slot : (z : Sizes) (x : Slot) → inRange z ≡ true → SlotInvariant P valid z x → QueueIn Short x

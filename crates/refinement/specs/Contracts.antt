@@ -1,8 +1,8 @@
 -- What set up and the four calls after it promise, for every memory and every argument: the numbers given back, and
 -- what the memory means afterwards (document 01, "The numbers a call gives back").
-use mathlib.Core.Path.{_≡_}
+use mathlib.Core.Path.{_≡_, refl}
 use mathlib.Core.List.{List, [], _∷_}
-use mathlib.Core.Bool.{true, cond}
+use mathlib.Core.Bool.{true, false, cond}
 use Prim.Native.Nat.{ℕ, _≤_}
 use lib.Dec.{leb}
 use lib.ListN.{length, take}
@@ -45,6 +45,12 @@ sizeFor z = cond (inRange z) (memorySize z) 0
 unfoldable pub setUpAnswer : Sizes → Bytes → ℕ
 setUpAnswer z m = cond (inRange z) (cond (leb (memorySize z) (length m)) 0 5) 8
 
+-- a size out of range is 8 although the memory is too short, and sizes in range with that memory are 5
+pub set-up-order : setUpAnswer (sizesWith 33 256 1024 256) [] ∷ setUpAnswer (sizesWith 32 256 1024 256) [] ∷ []
+    ≡ 8 ∷ 5 ∷ []
+unfolding setUpAnswer inRange
+set-up-order = refl
+
 -- A set up that was lent the memory m gave these numbers and left m′. Answered 0, it leaves an empty store and free
 -- slots, whatever m held; what is behind the slots is as it was.
 pub record SetsUp (z : Sizes) (m : Bytes) (answer count : ℕ) (m′ : Bytes) : Type 0 where
@@ -62,6 +68,11 @@ module _ (protocol : Protocol) where
   -- what a call gives back, from the memory that it is lent: 7 before all else
   unfoldable pub replyTo : Call → Bytes → Reply
   replyTo x m = cond (memoryFine m) (decide protocol x (imageOf m) .reply) broken
+
+  -- a memory that breaks a rule is 7, whatever the call
+  pub broken-first : (x : Call) (m : Bytes) → memoryFine m ≡ false → replyTo x m ≡ broken
+  unfolding replyTo
+  broken-first x m e = rw e
 
   -- what the memory means after a call that found its rules kept
   unfoldable pub imageAfter : Call → Bytes → Image

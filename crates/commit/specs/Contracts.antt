@@ -1,5 +1,5 @@
 -- What the functions of this crate ask and ensure, in the terms of the simple server: whether an action is refused
--- with 102 at its turn (`refuses`), and whether any command of a commit is (`refusesAny`). Document 01, COMMIT: "If any
+-- with 102 at its turn (`refuses`), and whether any action of a commit is (`refusesAny`). Document 01, COMMIT: "If any
 -- WRITE or SUB would be refused at its turn, none is done and the answer is 102."
 use Prim.Native.Nat.{ℕ, _≤_}
 use mathlib.Core.Path.{_≡_}

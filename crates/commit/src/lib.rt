@@ -165,7 +165,7 @@ fn turn<'a>(
     pattern_turn(patterns, id, payload, t)
 }
 
-// Whether a COMMIT of the recording is refused: whether any of its commands would be at its turn.
+// Whether a COMMIT of the recording is refused: whether any of its actions would be at its turn.
 // `patterns` is a copy of the client's subscriptions; what it holds afterwards is open.
 pub fn refuses_any<'a>(
     store: &'a [u8],

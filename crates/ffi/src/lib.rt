@@ -1,7 +1,9 @@
 // The broker under C names, for a host to link: set up, open, feed, take and close over one lent
 // slice, the bytes that a set up needs, and a match asked by itself. A slice is two C arguments, a
-// pointer and a length; NULL with length 0 is an empty one. Every function takes any argument and
-// promises what the function behind it promises; include/infod3.h says the same in words.
+// pointer and a length; NULL with length 0 is an empty one. Every function takes any numbers and any
+// bytes and promises what the function behind it promises; include/infod3.h says the same in words.
+// What a host owes is C's own: a slice is memory that is its to lend, and the slices of one call do
+// not overlap.
 ghost use mathlib.Core.Path.{_≡_};
 ghost use Rattle.pattern.specs.Answer.{answer};
 ghost use Rattle.infod3.specs.Infod3.{infod3};

@@ -92,7 +92,7 @@ actionOf-payload (read k) h = refl
 actionOf-payload (write k v) h = writeFrom-payload k v (not-true (hasNul k) h)
 actionOf-payload (ping i) h = refl
 
--- a command that was read reads back
+-- an action that was read reads back
 hasNul-keyIn : (p : Bytes) → hasNul (keyIn p) ≡ false
 unfolding hasNul firstNul
 hasNul-keyIn [] = refl

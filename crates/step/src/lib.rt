@@ -22,7 +22,7 @@ use command::Written;
 use message::Message;
 
 // The turn of an action with this ID and payload, which is not refused. What was an index of the
-// store before it is one after it.
+// store before it is one after it; which rows it names is left open.
 pub fn turn(mem: &mut [u8], slot: usize, id: u8, p: &[u8], index: &mut [usize])
     requires { ⌜ (Turning (now mem) slot id (now p))
         × (Indexes (imageOf (now mem) .store) (now index)) ⌝ }

@@ -80,6 +80,9 @@
 //! process left in a file. A memory that breaks the rules of its layout is answered with
 //! [`Error::Damaged`] and left as it is.
 //!
+//! [`View`] reads a few numbers of a memory without a call, such as how many bytes a client's queue
+//! holds, for a host that would have to try many calls else.
+//!
 //! # Linking
 //!
 //! The build links the archive `libffi.a`, from target/staticlib of the repository (where
@@ -90,10 +93,13 @@
 
 mod answer;
 mod broker;
+mod layout;
 #[allow(unsafe_code)]
 pub mod raw;
 mod sizes;
+mod view;
 
 pub use answer::{Error, Feed, Match, MatchError, Refusal};
 pub use broker::{matches, Broker, Form};
 pub use sizes::{Size, SizeError, Sizes};
+pub use view::View;

@@ -1,6 +1,6 @@
 //! The sizes of a set up.
 
-use crate::raw;
+use crate::{layout, raw};
 use std::fmt;
 use std::ops::RangeInclusive;
 
@@ -135,13 +135,16 @@ impl Sizes {
         })
     }
 
-    /// The sizes that the header of a memory names: four numbers of four bytes behind the mark.
+    /// The sizes that the header of a memory names.
     pub(crate) fn of_memory(mem: &[u8]) -> Option<Sizes> {
-        let number = |at: usize| -> Option<usize> {
-            let bytes: [u8; 4] = mem.get(at..at + 4)?.try_into().ok()?;
-            usize::try_from(u32::from_be_bytes(bytes)).ok()
-        };
-        Sizes::new(number(4)?, number(8)?, number(12)?, number(16)?).ok()
+        let number = |at| usize::try_from(layout::number(mem, at)?).ok();
+        Sizes::new(
+            number(layout::SLOTS)?,
+            number(layout::STORE_ROOM)?,
+            number(layout::QUEUE_ROOM)?,
+            number(layout::RECORD_ROOM)?,
+        )
+        .ok()
     }
 
     /// N, the number of slots.

@@ -5,6 +5,7 @@ use infod3_cli::Command as Infod3;
 use infod3d::process::Process;
 use std::ffi::OsString;
 use std::path::PathBuf;
+use std::process::Command;
 
 /// The bytes of a published payload.
 pub const PAYLOAD: usize = 64;
@@ -57,6 +58,21 @@ impl Peer {
     /// Whether its program is there.
     pub fn is_installed(&self) -> bool {
         self.program.is_file()
+    }
+
+    /// Its name, with its version where it is another server that is installed.
+    pub fn title(&self) -> String {
+        let asked = match self.protocol {
+            Protocol::Infod3(_) => None,
+            Protocol::Mqtt => Some("-h"),
+            Protocol::Redis | Protocol::Nats => Some("--version"),
+        };
+        let said = asked.and_then(|word| Command::new(&self.program).arg(word).output().ok());
+        let said = said.map(|said| String::from_utf8_lossy(&said.stdout).into_owned());
+        match said.as_deref().and_then(version) {
+            Some(version) => format!("{} {version}", self.name),
+            None => self.name.to_owned(),
+        }
     }
 
     /// Whether it is infod3d.
@@ -208,6 +224,13 @@ impl Peer {
     }
 }
 
+/// The first word with a digit, behind `v` or `v=`, and a dot.
+fn version(text: &str) -> Option<&str> {
+    let words = text.split_whitespace();
+    let mut numbers = words.map(|word| word.trim_start_matches(['v', '=']).trim_end_matches(','));
+    numbers.find(|word| word.starts_with(|c: char| c.is_ascii_digit()) && word.contains('.'))
+}
+
 /// The program of this name in the folders of PATH and of the system's servers.
 fn found(name: &str) -> PathBuf {
     let path = std::env::var_os("PATH").unwrap_or_default();
@@ -220,6 +243,16 @@ fn found(name: &str) -> PathBuf {
 #[cfg(test)]
 mod tests {
     use super::*;
+
+    #[test]
+    fn versions_are_found() {
+        let redis = "Redis server v=7.0.15 sha=00000000:0 malloc=jemalloc-5.3.0 bits=64";
+        assert_eq!(version(redis), Some("7.0.15"));
+        assert_eq!(version("nats-server: v2.10.10\n"), Some("2.10.10"));
+        let mosquitto = "mosquitto version 2.0.18\n\nmosquitto is an MQTT v5.0/v3.1.1/v3.1 broker";
+        assert_eq!(version(mosquitto), Some("2.0.18"));
+        assert_eq!(version("none 7"), None);
+    }
 
     #[test]
     fn lengths_are_those_of_the_protocols() {

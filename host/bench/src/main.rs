@@ -6,7 +6,8 @@
 //! processor time. The numbers are medians over the batches; a ratio is the median of the
 //! ratios of neighbouring batches. Before and after each batch of the library, calls that end with
 //! the test of the memory are measured on the very same memory: what the test costs goes by where
-//! the memory lies, too. The table goes to the file that the first argument names, too.
+//! the memory lies, too. The first argument says when and where it is measured; the page goes to
+//! the file that the second one names, if there is one.
 
 mod cases;
 mod clock;
@@ -118,8 +119,30 @@ fn main() {
         println!("{}", report::line(case, costs));
     }
     println!("measured in {:.1} s", begin.elapsed().as_secs_f64());
-    if let Some(path) = std::env::args_os().nth(1) {
-        std::fs::write(&path, report::page(&rows)).expect("the report is written");
+    let mut arguments = std::env::args_os().skip(1);
+    let measured = arguments
+        .next()
+        .unwrap_or_else(|| "at an unknown time".into());
+    println!("{}", measured.to_string_lossy());
+    if let Some(path) = arguments.next() {
+        let page = report::page(&rows, &measured.to_string_lossy());
+        std::fs::write(&path, page).expect("the report is written");
         println!("written to {}", path.to_string_lossy());
     }
+}
+
+/// A table of one row, for tests.
+#[cfg(test)]
+fn one_row() -> Vec<(Case, [Cost; 3])> {
+    let cost = Cost {
+        library: 1234.0,
+        own: 1000.0,
+        reference: 617.0,
+        ratio: 2.0,
+    };
+    cases()
+        .into_iter()
+        .take(1)
+        .map(|case| (case, [cost; 3]))
+        .collect()
 }

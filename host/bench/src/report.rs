@@ -30,36 +30,24 @@ pub fn line(case: &Case, costs: &[Cost; 3]) -> String {
     line
 }
 
-/// The machine's processor and how many of them there are.
-fn machine() -> String {
-    let info = std::fs::read_to_string("/proc/cpuinfo").unwrap_or_default();
-    let model = info
-        .lines()
-        .find_map(|line| line.strip_prefix("model name"))
-        .map_or("an unknown processor", |rest| {
-            rest.trim_start_matches([' ', '\t', ':'])
-        });
-    let cores = std::thread::available_parallelism().map_or(1, |n| n.get());
-    format!("{model}, {cores} cores")
-}
-
-/// The page.
-pub fn page(rows: &[(Case, [Cost; 3])]) -> String {
+/// The page; `measured` says when, from which commit and on which machine.
+pub fn page(rows: &[(Case, [Cost; 3])], measured: &str) -> String {
     let mut page = String::new();
     let batches = ROUNDS * (BATCHES - 1);
     let _ = writeln!(page, "# What the calls cost\n");
     let _ = writeln!(
         page,
         "Nanoseconds of processor time per call of the library, and in brackets its cost as a \
-         multiple of the reference's (host/reference, which has ordinary\ncollections and no lent \
-         memory to check) in the same run. Each number is the median of {batches} batches; the \
-         batches of the two sides alternate.\n`./bench` measures again and writes this page.\n"
+         multiple of the reference's\n(host/reference, which has ordinary collections and no lent \
+         memory to check) in the same run. Each number is the median\nof {batches} batches; the \
+         batches of the two sides alternate. `./bench --write` measures again and writes this \
+         page.\n"
     );
-    let _ = writeln!(page, "Machine: {}. One thread.\n", machine());
+    let _ = writeln!(page, "All figures were measured {measured}.\nOne thread.\n");
     let _ = writeln!(
         page,
         "The state: 32 slots, of which 25 are open; 24 of the clients hold two patterns each that \
-         match no key. Keys have 15 bytes and values 8. \"Growth\" is the\nlibrary's cost with \
+         match no key. Keys have 15\nbytes and values 8. \"Growth\" is the library's cost with \
          1,024 keys as a multiple of that with 10.\n"
     );
     let _ = writeln!(page, "| Call | 10 keys | 100 keys | 1,024 keys | Growth |");
@@ -80,9 +68,25 @@ pub fn page(rows: &[(Case, [Cost; 3])]) -> String {
     own_costs(&mut page, rows);
     let _ = writeln!(page, "\n## The rows\n");
     for (case, _) in rows {
-        let _ = writeln!(page, "- **{}**: {}", case.name, case.text);
+        page.push_str(&item(&format!("**{}**: {}", case.name, case.text)));
     }
     page
+}
+
+/// An item of a list, in lines of at most 120 bytes.
+fn item(text: &str) -> String {
+    let mut lines = String::from("-");
+    let mut len = 1;
+    for word in text.split(' ') {
+        if len + 1 + word.len() > 120 {
+            lines.push_str("\n ");
+            len = 1;
+        }
+        lines.push(' ');
+        lines.push_str(word);
+        len += 1 + word.len();
+    }
+    lines + "\n"
 }
 
 /// What each call costs beyond the test of the memory, which is the first row.
@@ -91,10 +95,10 @@ fn own_costs(page: &mut String, rows: &[(Case, [Cost; 3])]) {
     let _ = writeln!(
         page,
         "Every call first tests the rules of the whole memory (answer 7), which walks the store's \
-         rows and the open clients: the first row is that test, and it is part of all others.\nHere \
-         each row stands less that test, measured on the same memory before and after each batch: \
-         what the call itself costs, and in brackets as a multiple\nof the reference's cost. More than \
-         twice the reference is bold.\n"
+         rows and the open clients: the\nfirst row is that test, and it is part of all others. Here \
+         each row stands less that test, measured on the same memory\nbefore and after each batch: \
+         what the call itself costs, and in brackets as a multiple of the reference's cost. More\n\
+         than twice the reference is bold.\n"
     );
     let _ = writeln!(page, "| Call | 10 keys | 100 keys | 1,024 keys |");
     let _ = writeln!(page, "|---|---|---|---|");
@@ -113,5 +117,28 @@ fn own_costs(page: &mut String, rows: &[(Case, [Cost; 3])]) {
             })
             .collect();
         let _ = writeln!(page, "| {} | {} |", case.name, cells.join(" | "));
+    }
+}
+
+#[cfg(test)]
+mod tests {
+    use super::*;
+
+    #[test]
+    fn items_are_wrapped() {
+        assert_eq!(item("**a**: b c"), "- **a**: b c\n");
+        let long = item(&"word ".repeat(40));
+        assert!(long.lines().count() == 2 && long.lines().all(|line| line.len() <= 120));
+        assert!(long
+            .lines()
+            .nth(1)
+            .is_some_and(|line| line.starts_with("  word")));
+    }
+
+    #[test]
+    fn the_page_says_when_it_was_measured() {
+        let page = page(&crate::one_row(), "2026-01-31, commit abc1234");
+        assert!(page.contains("All figures were measured 2026-01-31, commit abc1234."));
+        assert!(page.contains("| 1,234 (2.0×) |"), "{page}");
     }
 }

@@ -1,114 +1,96 @@
 //! A connection to a server, over TCP or a Unix socket.
 
+use crate::address::{connect_tcp, Address};
 use crate::message::{Command, Message};
-use std::fmt;
+use crate::sys::{self, PollFd, POLLIN, POLLOUT};
+use crate::trouble::Trouble;
 use std::io::{self, Read, Write};
-use std::net::{TcpStream, ToSocketAddrs};
+use std::net::{Shutdown, TcpStream};
+use std::os::fd::{AsFd, BorrowedFd};
 use std::os::unix::net::UnixStream;
-use std::path::PathBuf;
 use std::time::{Duration, Instant};
 
-/// Where a server is.
-#[derive(Clone, Debug, PartialEq, Eq)]
-pub enum Address {
-    /// A name or address, and a port.
-    Tcp(String),
-    /// The path of a Unix socket.
-    Unix(PathBuf),
-}
+/// The longest line of the server itself that is waited for.
+const LONGEST_LINE: usize = 1024;
 
-impl Address {
-    /// Reads `tcp:ADDR:PORT`, `unix:PATH`, a path (with a slash) or ADDR:PORT.
-    pub fn read(text: &str) -> Address {
-        if let Some(path) = text.strip_prefix("unix:") {
-            Address::Unix(path.into())
-        } else if let Some(address) = text.strip_prefix("tcp:") {
-            Address::Tcp(address.to_owned())
-        } else if text.contains('/') {
-            Address::Unix(text.into())
-        } else {
-            Address::Tcp(text.to_owned())
-        }
-    }
-}
-
-impl fmt::Display for Address {
-    fn fmt(&self, f: &mut fmt::Formatter<'_>) -> fmt::Result {
-        match self {
-            Address::Tcp(address) => write!(f, "tcp:{address}"),
-            Address::Unix(path) => write!(f, "unix:{}", path.display()),
-        }
-    }
-}
-
-/// Why a connection does not go on.
-#[derive(Debug)]
-pub enum Trouble {
-    /// The server cannot be reached, or has no free slot.
-    Connect(String),
-    /// The server sent ERROR.
-    Error(u8, Vec<u8>),
-    /// The connection is lost, or what comes is not infod3.
-    Lost(String),
-    /// Nothing came in time.
-    Late,
-    /// A command has more than 65,535 bytes of payload.
-    TooLong,
-}
-
-impl fmt::Display for Trouble {
-    fn fmt(&self, f: &mut fmt::Formatter<'_>) -> fmt::Result {
-        match self {
-            Trouble::Connect(error) => write!(f, "cannot connect: {error}"),
-            Trouble::Error(number, text) => {
-                write!(f, "ERROR {number} {}", String::from_utf8_lossy(text))
-            }
-            Trouble::Lost(error) => write!(f, "connection lost: {error}"),
-            Trouble::Late => f.write_str("connection lost: no answer in time"),
-            Trouble::TooLong => f.write_str("key and value are longer than 65535 bytes"),
-        }
-    }
-}
-
-impl std::error::Error for Trouble {}
-
+/// A socket that does not block.
 #[derive(Debug)]
 enum Stream {
     Tcp(TcpStream),
     Unix(UnixStream),
 }
 
+impl Stream {
+    fn read(&mut self, bytes: &mut [u8]) -> io::Result<usize> {
+        match self {
+            Stream::Tcp(stream) => stream.read(bytes),
+            Stream::Unix(stream) => stream.read(bytes),
+        }
+    }
+
+    fn write(&mut self, bytes: &[u8]) -> io::Result<usize> {
+        match self {
+            Stream::Tcp(stream) => stream.write(bytes),
+            Stream::Unix(stream) => stream.write(bytes),
+        }
+    }
+
+    fn end_writing(&self) -> io::Result<()> {
+        match self {
+            Stream::Tcp(stream) => stream.shutdown(Shutdown::Write),
+            Stream::Unix(stream) => stream.shutdown(Shutdown::Write),
+        }
+    }
+}
+
+impl AsFd for Stream {
+    fn as_fd(&self) -> BorrowedFd<'_> {
+        match self {
+            Stream::Tcp(stream) => stream.as_fd(),
+            Stream::Unix(stream) => stream.as_fd(),
+        }
+    }
+}
+
 /// A connection.
 #[derive(Debug)]
 pub struct Connection {
     stream: Stream,
+    /// How long sending may take.
+    timeout: Duration,
     /// What is received and not given out yet.
     bytes: Vec<u8>,
     start: usize,
     room: Vec<u8>,
+    /// The server has closed.
+    closed: bool,
+}
+
+impl AsFd for Connection {
+    fn as_fd(&self) -> BorrowedFd<'_> {
+        self.stream.as_fd()
+    }
 }
 
 impl Connection {
-    /// Connects within `timeout`.
+    /// Connects within `timeout`, which then holds for each sending too.
     pub fn open(address: &Address, timeout: Duration) -> Result<Connection, Trouble> {
-        let wrong = |error: io::Error| Trouble::Connect(format!("{address}: {error}"));
-        let stream = match address {
-            Address::Tcp(text) => {
-                let stream = connect_tcp(text, timeout).map_err(wrong)?;
-                stream.set_nodelay(true).map_err(wrong)?;
-                Stream::Tcp(stream)
-            }
-            Address::Unix(path) => Stream::Unix(UnixStream::connect(path).map_err(wrong)?),
+        let stream = connect(address, timeout);
+        let wrong = |error: io::Error| match error.kind() {
+            io::ErrorKind::TimedOut => Trouble::Connect(format!("{address}: no answer in time")),
+            _ => Trouble::Connect(format!("{address}: {error}")),
         };
-        Ok(Connection::over(stream))
+        Ok(Connection::over(stream.map_err(wrong)?, timeout))
     }
 
-    fn over(stream: Stream) -> Connection {
+    fn over(stream: Stream, timeout: Duration) -> Connection {
         Connection {
             stream,
+            timeout,
             bytes: Vec::new(),
             start: 0,
             room: vec![0; 65_536],
+            closed: false,
         }
     }
 
@@ -119,7 +101,7 @@ impl Connection {
             Stream::Tcp(stream) => Stream::Tcp(stream.try_clone()?),
             Stream::Unix(stream) => Stream::Unix(stream.try_clone()?),
         };
-        Ok(Connection::over(stream))
+        Ok(Connection::over(stream, self.timeout))
     }
 
     /// Sends a command.
@@ -127,29 +109,52 @@ impl Connection {
         self.send_all(&[command])
     }
 
-    /// Sends commands in one write.
+    /// Sends commands together. Where the server takes them too slowly the connection is of no
+    /// use any more, since a part of them may be sent.
     pub fn send_all(&mut self, commands: &[Command<'_>]) -> Result<(), Trouble> {
         let mut frames = Vec::new();
         if !commands.iter().all(|c| c.append_to(&mut frames)) {
             return Err(Trouble::TooLong);
         }
-        let sent = match &mut self.stream {
-            Stream::Tcp(stream) => stream.write_all(&frames),
-            Stream::Unix(stream) => stream.write_all(&frames),
-        };
-        match sent {
-            Ok(()) => Ok(()),
-            Err(error) => Err(self.last_words(error)),
+        let until = Instant::now().checked_add(self.timeout);
+        let mut rest = frames.as_slice();
+        while !rest.is_empty() {
+            match self.send_some(rest) {
+                Ok(0) => self.wait(POLLOUT, until)?,
+                Ok(n) => rest = &rest[n..],
+                Err(error) => return Err(self.last_words(error)),
+            }
+        }
+        Ok(())
+    }
+
+    /// Sends as many of the bytes as the socket takes now, and gives their number. The bytes are
+    /// frames; the rest of them has to follow.
+    pub fn send_some(&mut self, frames: &[u8]) -> io::Result<usize> {
+        match self.stream.write(frames) {
+            Err(error) if is_no_error(&error) => Ok(0),
+            written => written,
         }
     }
 
-    /// Where sending fails because the server has closed, its ERROR may still be there to read.
+    /// Says that nothing more is sent. The server then gives all that is queued, and closes.
+    pub fn end_sending(&self) -> io::Result<()> {
+        self.stream.end_writing()
+    }
+
+    /// Whether the server has closed and all that it sent is given out.
+    pub fn has_ended(&self) -> bool {
+        self.closed && self.start == self.bytes.len()
+    }
+
+    /// Where sending fails because the server has closed, what it said last may still be there to
+    /// read.
     fn last_words(&mut self, error: io::Error) -> Trouble {
         for _ in 0..1000 {
             match self.receive(Some(Duration::from_millis(500))) {
                 Ok(_) => {}
-                Err(trouble @ (Trouble::Error(..) | Trouble::Connect(_))) => return trouble,
-                Err(_) => break,
+                Err(Trouble::Lost(_) | Trouble::Late) => break,
+                Err(trouble) => return trouble,
             }
         }
         Trouble::Lost(error.to_string())
@@ -157,16 +162,16 @@ impl Connection {
 
     /// The next message; waits at most `timeout`, or without end. An ERROR is a trouble.
     pub fn receive(&mut self, timeout: Option<Duration>) -> Result<Message, Trouble> {
-        let until = timeout.map(|timeout| Instant::now() + timeout);
+        let until = timeout.and_then(|timeout| Instant::now().checked_add(timeout));
         loop {
             if let Some(message) = self.received()? {
                 return Ok(message);
             }
-            let left = match until.map(|until| until.saturating_duration_since(Instant::now())) {
-                Some(left) if left.is_zero() => return Err(Trouble::Late),
-                left => left,
-            };
-            self.read(left)?;
+            match self.read() {
+                Ok(true) => {}
+                Ok(false) => self.wait(POLLIN, until)?,
+                Err(trouble) => return Err(self.unfinished_line().unwrap_or(trouble)),
+            }
         }
     }
 
@@ -174,8 +179,11 @@ impl Connection {
     fn received(&mut self) -> Result<Option<Message>, Trouble> {
         let bytes = &self.bytes[self.start..];
         if bytes.first() == Some(&b'#') {
-            let line = String::from_utf8_lossy(bytes).trim().to_owned();
-            return Err(Trouble::Connect(line));
+            return match bytes.iter().position(|&b| b == b'\n') {
+                Some(end) => Err(Trouble::of_line(&bytes[..end])),
+                None if bytes.len() > LONGEST_LINE => Err(Trouble::of_line(&bytes[..LONGEST_LINE])),
+                None => Ok(None),
+            };
         }
         let Some(len) = Message::whole(bytes) else {
             return Ok(None);
@@ -189,41 +197,50 @@ impl Connection {
         }
     }
 
-    /// Reads what comes within the time.
-    fn read(&mut self, timeout: Option<Duration>) -> Result<(), Trouble> {
-        let lost = |error: io::Error| Trouble::Lost(error.to_string());
-        let read = match &mut self.stream {
-            Stream::Tcp(stream) => {
-                stream.set_read_timeout(timeout).map_err(lost)?;
-                stream.read(&mut self.room)
+    /// What a line of the server itself means that was cut off by the connection's end.
+    fn unfinished_line(&self) -> Option<Trouble> {
+        let bytes = &self.bytes[self.start..];
+        bytes.starts_with(b"#").then(|| Trouble::of_line(bytes))
+    }
+
+    /// Reads what is there; false where nothing is.
+    fn read(&mut self) -> Result<bool, Trouble> {
+        match self.stream.read(&mut self.room) {
+            Ok(0) => {
+                self.closed = true;
+                Err(Trouble::Lost("closed by the server".to_owned()))
             }
-            Stream::Unix(stream) => {
-                stream.set_read_timeout(timeout).map_err(lost)?;
-                stream.read(&mut self.room)
-            }
-        };
-        match read {
-            Ok(0) => Err(Trouble::Lost("closed by the server".to_owned())),
             Ok(n) => {
                 self.bytes.drain(..self.start);
                 self.start = 0;
                 self.bytes.extend_from_slice(&self.room[..n]);
-                Ok(())
+                Ok(true)
             }
-            Err(error) => match error.kind() {
-                io::ErrorKind::WouldBlock | io::ErrorKind::TimedOut => Err(Trouble::Late),
-                io::ErrorKind::Interrupted => Ok(()),
-                _ => Err(lost(error)),
-            },
+            Err(error) if is_no_error(&error) => Ok(false),
+            Err(error) => Err(Trouble::Lost(error.to_string())),
         }
     }
 
+    /// Waits until the socket may be ready, until then.
+    fn wait(&mut self, events: i16, until: Option<Instant>) -> Result<(), Trouble> {
+        let left = until.map(|until| until.saturating_duration_since(Instant::now()));
+        if left.is_some_and(|left| left.is_zero()) {
+            return Err(Trouble::Late);
+        }
+        let mut fds = [PollFd::new(Some(self.as_fd()), events)];
+        sys::wait(&mut fds, left).map_err(|error| Trouble::Lost(error.to_string()))
+    }
+
     /// Sends PING and drops what comes before its PONG, so that all that was sent before is done.
+    /// The time is that for all of it.
     pub fn synchronise(&mut self, timeout: Duration) -> Result<(), Trouble> {
         self.send(Command::Ping(b"synchronise"))?;
-        let until = Instant::now() + timeout;
+        let begin = Instant::now();
         loop {
-            let left = until.saturating_duration_since(Instant::now());
+            let left = timeout.saturating_sub(begin.elapsed());
+            if left.is_zero() {
+                return Err(Trouble::Late);
+            }
             match self.receive(Some(left))? {
                 Message::Pong(id) if id == b"synchronise" => return Ok(()),
                 _ => {}
@@ -232,13 +249,24 @@ impl Connection {
     }
 }
 
-fn connect_tcp(text: &str, timeout: Duration) -> io::Result<TcpStream> {
-    let mut last = io::Error::new(io::ErrorKind::NotFound, "no such address");
-    for address in text.to_socket_addrs()? {
-        match TcpStream::connect_timeout(&address, timeout) {
-            Ok(stream) => return Ok(stream),
-            Err(error) => last = error,
+/// Whether a socket that does not block is only not ready, or a signal came.
+fn is_no_error(error: &io::Error) -> bool {
+    let kind = error.kind();
+    kind == io::ErrorKind::WouldBlock || kind == io::ErrorKind::Interrupted
+}
+
+fn connect(address: &Address, timeout: Duration) -> io::Result<Stream> {
+    match address {
+        Address::Tcp(text) => {
+            let stream = connect_tcp(text, timeout)?;
+            stream.set_nodelay(true)?;
+            stream.set_nonblocking(true)?;
+            Ok(Stream::Tcp(stream))
+        }
+        Address::Unix(path) => {
+            let stream = sys::connect_unix(path, timeout)?;
+            stream.set_nonblocking(true)?;
+            Ok(Stream::Unix(stream))
         }
     }
-    Err(last)
 }

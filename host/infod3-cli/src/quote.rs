@@ -14,6 +14,29 @@ pub fn quote(bytes: &[u8]) -> String {
     text
 }
 
+/// A string as one field of a line: as it is where it has a byte and all of them are plain, which
+/// printable ASCII is without the space, `"` and `\`, and else in quotes. [`fields`] reads it back.
+pub fn field(bytes: &[u8]) -> String {
+    let plain = |&b: &u8| b.is_ascii_graphic() && b != b'"' && b != b'\\';
+    match std::str::from_utf8(bytes) {
+        Ok(text) if !text.is_empty() && bytes.iter().all(plain) => text.to_owned(),
+        _ => quote(bytes),
+    }
+}
+
+/// A text in which a terminal finds nothing to obey: `\ooo` for every byte that is not printable
+/// ASCII.
+pub fn harmless(bytes: &[u8]) -> String {
+    let mut text = String::new();
+    for &byte in bytes {
+        match byte {
+            b' '..=b'~' => text.push(char::from(byte)),
+            _ => text.push_str(&format!("\\{byte:03o}")),
+        }
+    }
+    text
+}
+
 /// The fields of a line, apart by spaces. A field that begins with `"` runs to the next `"` and
 /// has `\ooo` for a byte in octal; any other field stands for its own bytes. None for a quote
 /// that is not closed or not followed by a space, and for a wrong escape.
@@ -74,6 +97,22 @@ mod tests {
         let expected = vec![b"w".to_vec(), all, b"x\"y".to_vec()];
         assert_eq!(fields(line.as_bytes()), Some(expected));
         assert_eq!(quote(b"a b\r\n"), r#""a b\015\012""#);
+    }
+
+    #[test]
+    fn a_field_is_quoted_where_a_byte_is_not_plain() {
+        let table: [(&[u8], &str); 6] = [
+            (b"site.7.state", "site.7.state"),
+            (b"", r#""""#),
+            (b"a b", r#""a b""#),
+            (b"\\", r#""\134""#),
+            (b"a\"", r#""a\042""#),
+            ("ö".as_bytes(), r#""\303\266""#),
+        ];
+        for (bytes, text) in table {
+            assert_eq!(field(bytes), text);
+            assert_eq!(fields(text.as_bytes()), Some(vec![bytes.to_vec()]));
+        }
     }
 
     #[test]

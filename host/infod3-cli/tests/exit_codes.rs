@@ -1,113 +1,26 @@
 //! The program against a real server: what it prints, and its exit status.
 
-use infod3d::{Handle, Log, Options, Server};
+mod common;
+
+use common::{await_frame, fake, frame, INFO, PONG, READ};
+use common::{
+    bare_program, bytes, done, finish, finish_with, program, run_bare, server, server_at,
+};
 use std::io::{Read, Write};
-use std::path::PathBuf;
-use std::process::{Child, Command, Stdio};
 use std::time::{Duration, Instant};
-
-struct Running {
-    path: PathBuf,
-    tcp: String,
-    handle: Handle,
-}
-
-fn server(name: &str, change: impl FnOnce(&mut Options)) -> Running {
-    let file = format!("infod3-cli-{}-{name}", std::process::id());
-    let path = std::env::temp_dir().join(file);
-    let mut options = Options {
-        tcp: vec!["127.0.0.1:0".parse().expect("an address")],
-        unix: vec![path.clone()],
-        ..Options::default()
-    };
-    change(&mut options);
-    let log = Log::new(Box::new(std::io::sink()), true);
-    let server = Server::new(&options, log).expect("a server");
-    let tcp = server.places()[0].to_string().replace("tcp ", "");
-    let handle = server.handle().expect("a handle");
-    std::thread::spawn(move || server.run().expect("a clean end"));
-    Running { path, tcp, handle }
-}
-
-impl Drop for Running {
-    fn drop(&mut self) {
-        self.handle.stop();
-        let until = Instant::now() + Duration::from_secs(5);
-        while self.path.exists() && Instant::now() < until {
-            std::thread::sleep(Duration::from_millis(2));
-        }
-    }
-}
-
-impl Running {
-    fn spawn(&self, arguments: &[&str]) -> Child {
-        Command::new(env!("CARGO_BIN_EXE_infod3"))
-            .arg("--unix")
-            .arg(&self.path)
-            .args(arguments)
-            .stdin(Stdio::piped())
-            .stdout(Stdio::piped())
-            .stderr(Stdio::piped())
-            .spawn()
-            .expect("infod3 runs")
-    }
-
-    /// Runs the program with this input: its status, output and errors.
-    fn run(&self, arguments: &[&str], input: &[u8]) -> (i32, String, String) {
-        let mut child = self.spawn(arguments);
-        // A program that ends early takes no input.
-        let _ = child.stdin.take().expect("its input").write_all(input);
-        finish(child)
-    }
-}
-
-fn finish(mut child: Child) -> (i32, String, String) {
-    let until = Instant::now() + Duration::from_secs(60);
-    while child.try_wait().expect("a process").is_none() {
-        if Instant::now() > until {
-            let _ = child.kill();
-            panic!("the program does not end");
-        }
-        std::thread::sleep(Duration::from_millis(2));
-    }
-    let output = child.wait_with_output().expect("its output");
-    let text = |bytes: Vec<u8>| String::from_utf8(bytes).expect("UTF-8");
-    let status = output.status.code().expect("a status");
-    (status, text(output.stdout), text(output.stderr))
-}
-
-/// The first line that a running program prints.
-fn first_line(child: &mut Child) -> String {
-    let mut line = String::new();
-    let mut byte = [0];
-    let out = child.stdout.as_mut().expect("its output");
-    while !line.ends_with('\n') {
-        assert_eq!(
-            out.read(&mut byte).expect("a byte"),
-            1,
-            "ended after {line:?}"
-        );
-        line.push(char::from(byte[0]));
-    }
-    line
-}
-
-fn done(output: &str) -> (i32, String, String) {
-    (0, output.to_owned(), String::new())
-}
 
 #[test]
 fn commands() {
-    let server = server("commands", |_| {});
+    let server = server("commands");
     assert_eq!(server.run(&["ping"], b""), done("pong\n"));
     assert_eq!(
         server.run(&["read", "k"], b""),
         (1, String::new(), String::new())
     );
-    assert_eq!(server.run(&["write", "k", "a b"], b""), done(""));
-    assert_eq!(server.run(&["read", "k"], b""), done("a b\n"));
-    assert_eq!(server.run(&["write", "--", "--k", ""], b""), done(""));
-    assert_eq!(server.run(&["read", "--", "--k"], b""), done("\n"));
+    assert_eq!(server.run(&["write", "k", "a"], b""), done(""));
+    assert_eq!(server.run(&["read", "k"], b""), done("a\n"));
+    assert_eq!(server.run(&["write", "--", "--k", "-h"], b""), done(""));
+    assert_eq!(server.run(&["read", "--", "--k"], b""), done("-h\n"));
     assert_eq!(
         server.run(&["write", "--stdin", "k"], b"\0\"\n\\x"),
         done("")
@@ -116,72 +29,133 @@ fn commands() {
         server.run(&["--text", "read", "k"], b""),
         done("\"\\000\\042\\012\\134x\"\n")
     );
-    assert_eq!(server.run(&["read", "k"], b""), done("\0\"\n\\x\n"));
     assert_eq!(server.run(&["delete", "k"], b""), done(""));
     assert_eq!(server.run(&["read", "k"], b"").0, 1);
 }
 
 #[test]
 fn the_server_is_named_by_the_environment_too() {
-    let server = server("environment", |_| {});
+    let server = server("environment");
     let unix = format!("unix:{}", server.path.display());
     for name in [&server.tcp, &format!("tcp:{}", server.tcp), &unix] {
-        let child = Command::new(env!("CARGO_BIN_EXE_infod3"))
+        let child = bare_program()
             .env("INFOD3_SERVER", name)
             .arg("ping")
-            .stdout(Stdio::piped())
-            .stderr(Stdio::piped())
             .spawn();
         assert_eq!(finish(child.expect("infod3 runs")), done("pong\n"));
     }
 }
 
 #[test]
-fn watching() {
-    let server = server("watching", |_| {});
-    assert_eq!(server.run(&["write", "a", "1"], b""), done(""));
-    let mut child = server.spawn(&["--count", "3", "watch", "b*", "a"]);
-    assert_eq!(first_line(&mut child), "a 1\n");
-    assert_eq!(server.run(&["write", "b1", "2"], b""), done(""));
-    assert_eq!(server.run(&["write", "c", "3"], b""), done(""));
-    assert_eq!(server.run(&["delete", "a"], b""), done(""));
-    assert_eq!(finish(child), done("b1 2\na\n"));
+fn a_path_need_not_be_utf_8() {
+    let mut name = std::env::temp_dir().into_os_string();
+    name.push(format!("/infod3-cli-{}-", std::process::id()));
+    name.push(bytes(b"\xff\xfe"));
+    let server = server_at(name.as_ref(), infod3::Sizes::LARGEST);
+    assert_eq!(server.run(&["ping"], b""), done("pong\n"));
+    let child = bare_program()
+        .env("INFOD3_SERVER", &name)
+        .arg("ping")
+        .spawn();
+    assert_eq!(finish(child.expect("infod3 runs")), done("pong\n"));
 }
 
 #[test]
-fn lines() {
-    let server = server("lines", |_| {});
-    let input = b"write k \"x\\012y\"\nread k\n\nBEGIN\nwrite k 2\nping p\ncommit\nr k\nd k\nr k\n";
-    let output = "\"k\" \"x\\012y\"\npong \"p\"\n\"k\" \"2\"\n\"k\"\n";
-    assert_eq!(server.run(&[], input), done(output));
-    assert_eq!(server.run(&[], b"ping\nquit\nping\n"), done("pong \"\"\n"));
-    let (status, output, errors) = server.run(&[], b"nonsense\nping\n");
-    assert_eq!((status, output.as_str()), (0, "pong \"\"\n"));
-    assert!(errors.contains("write KEY VALUE"));
-    let (status, _, errors) = server.run(&[], b"sub **\n");
-    assert_eq!(
-        (status, errors.as_str()),
-        (4, "infod3: ERROR 101 bad parameter\n")
-    );
+fn every_option_may_hold_its_value() {
+    let server = server("options");
+    let tcp = format!("--tcp={}", server.tcp);
+    assert_eq!(run_bare(&[&tcp, "--timeout=9", "ping"]), done("pong\n"));
+    let mut unix = std::ffi::OsString::from("--unix=");
+    unix.push(&server.path);
+    let child = bare_program().arg(unix).arg("ping").spawn();
+    assert_eq!(finish(child.expect("infod3 runs")), done("pong\n"));
+}
+
+#[test]
+fn the_program_says_what_it_is() {
+    let help = run_bare(&["--help"]);
+    assert_eq!((help.0, help.2.as_str()), (0, ""));
+    assert_eq!(run_bare(&["-h"]), help);
+    assert_eq!(run_bare(&["read", "-h"]), help);
+    let version = format!("infod3 {}\n", env!("CARGO_PKG_VERSION"));
+    assert_eq!(run_bare(&["--version"]), done(&version));
+    assert_eq!(run_bare(&["-V"]), done(&version));
+    let (status, man, errors) = run_bare(&["--man"]);
+    assert_eq!((status, errors.as_str()), (0, ""));
+    assert!(man.starts_with(".TH INFOD3 1 "), "{man}");
+    // Both name every option and every status.
+    for word in [
+        "tcp",
+        "unix",
+        "timeout",
+        "text",
+        "raw",
+        "json",
+        "count",
+        "once",
+        "keepalive",
+        "version",
+    ] {
+        assert!(help.1.contains(&format!("--{word} ")), "{word}");
+        assert!(man.contains(&format!("\\fB\\-\\-{word}\\fR")), "{word}");
+    }
+    for status in 0..=7 {
+        assert!(help.1.contains(&format!("\n  {status}  ")), "{status}");
+        assert!(
+            man.contains(&format!(".TP\n\\fB{status}\\fR\n")),
+            "{status}"
+        );
+    }
+    assert!(man.contains("\\fB\\-\\-man\\fR") && !help.1.contains("--man"));
+}
+
+#[test]
+fn watching() {
+    let server = server("watching");
+    assert_eq!(server.run(&["write", "a", "1"], b""), done(""));
+    let child = server.spawn(&["--count", "3", "watch", "b*", "a"]);
+    let mut watch = common::Lines::of(child);
+    assert_eq!(watch.output(), "a 1");
+    assert_eq!(server.run(&["write", "b1", "2"], b""), done(""));
+    assert_eq!(server.run(&["write", "c", "3"], b""), done(""));
+    assert_eq!(server.run(&["delete", "a"], b""), done(""));
+    assert_eq!(watch.output(), "b1 2");
+    assert_eq!(watch.output(), "a");
+    assert_eq!(watch.status(), 0);
+}
+
+#[test]
+fn wrong_usage() {
+    let commands = "read, write, delete, watch and ping";
+    let unknown = format!("unknown command reed; commands are {commands}");
+    let table: [(&[&str], &str); 9] = [
+        (&["reed", "k"], &unknown),
+        (&["read"], "read wants a KEY"),
+        (&["read", "a", "b"], "read wants a KEY alone; b is too much"),
+        (&["write", "k"], "write wants a VALUE (or --stdin)"),
+        (&["watch"], "watch wants a PATTERN"),
+        (&["--loud"], "unknown option --loud"),
+        (
+            &["--count=0", "watch", "k"],
+            "--count wants a number from 1 to 1000000000, not 0",
+        ),
+        (&["--stdin", "read", "k"], "--stdin is for write"),
+        (
+            &["--tcp", "7070", "ping"],
+            "7070 is no address and port, such as 127.0.0.1:7070",
+        ),
+    ];
+    for (words, error) in table {
+        let line = format!("infod3: {error}; infod3 --help shows how\n");
+        assert_eq!(run_bare(words), (2, String::new(), line));
+    }
 }
 
 #[test]
 fn troubles() {
-    let server = server("troubles", |options| {
-        options.sizes = infod3::Sizes::new(2, 256, 1024, 256).expect("sizes");
-    });
-    // 2: wrong usage.
-    for words in [
-        &["reed", "k"][..],
-        &["read"],
-        &["read", "a", "b"],
-        &["--loud"],
-        &["watch"],
-    ] {
-        let (status, _, errors) = server.run(words, b"");
-        assert_eq!(status, 2, "{words:?}");
-        assert!(errors.contains("infod3 --help"), "{errors}");
-    }
+    let sizes = infod3::Sizes::new(2, 256, 1024, 256).expect("sizes");
+    let server = server_at(&common::path("troubles"), sizes);
+    // 2: more than a message holds.
     let long = "x".repeat(70_000);
     assert_eq!(server.run(&["write", "k", &long], b"").0, 2);
     // 4: the server sent ERROR.
@@ -202,17 +176,66 @@ fn troubles() {
     assert!(errors.contains("no free slot: 2 clients"), "{errors}");
     drop(held);
     // 5: the connection is lost.
-    let until = Instant::now() + Duration::from_secs(5);
+    let until = Instant::now() + Duration::from_secs(30);
     while server.run(&["ping"], b"").0 != 0 {
         assert!(Instant::now() < until, "the slots are not freed");
     }
     assert_eq!(server.run(&["write", "k", "v"], b"").0, 0);
-    let mut child = server.spawn(&["watch", "*"]);
-    assert_eq!(first_line(&mut child), "k v\n");
+    let child = program(&server.path).args(["--once", "watch", "*"]).spawn();
+    let mut watch = common::Lines::of(child.expect("infod3 runs"));
+    assert_eq!(watch.output(), "k v");
     drop(server);
-    let (status, _, errors) = finish(child);
     assert_eq!(
-        (status, errors.as_str()),
-        (5, "infod3: connection lost: closed by the server\n")
+        watch.error(),
+        "infod3: connection lost: closed by the server"
     );
+    assert_eq!(watch.status(), 5);
+}
+
+/// Between key and value there is a NUL.
+#[test]
+fn key_and_value_have_so_many_bytes_at_most() {
+    let server = server("longest");
+    let write = |len| server.run(&["write", "--stdin", "k"], &vec![b'x'; len]);
+    assert_eq!(write(65_533), done(""));
+    let line = "infod3: too long: a command holds at most 65535 bytes, so key and value together \
+                at most 65534\n";
+    assert_eq!(write(65_534), (2, String::new(), line.to_owned()));
+    let input = format!("write k {}\n", "x".repeat(65_534));
+    let (status, _, errors) = server.run(&[], input.as_bytes());
+    assert_eq!(status, 2);
+    assert!(errors.starts_with(line), "{errors}");
+}
+
+/// A server that answers for another key, or with something else, has not answered.
+#[test]
+fn the_value_is_that_of_the_key() {
+    let messages = [
+        frame(INFO, b"l\x001"),
+        frame(INFO, b"l"),
+        frame(PONG, b"k\x001"),
+    ];
+    let path = fake("other-key", move |number, mut stream| {
+        await_frame(&mut stream, READ);
+        let message = &messages[number % messages.len()];
+        stream.write_all(message).expect("written");
+        let _ = stream.read_to_end(&mut Vec::new());
+    });
+    let line = "infod3: connection lost: another answer than the key's INFO\n";
+    for _ in 0..3 {
+        let ended = common::run(&path, &["read", "k"], b"");
+        assert_eq!(ended, (5, String::new(), line.to_owned()));
+    }
+}
+
+#[test]
+fn a_value_from_standard_input_may_be_of_any_bytes() {
+    let server = server("bytes");
+    let value: Vec<u8> = (0..=255).collect();
+    let child = server.spawn(&["write", "--stdin", "k"]);
+    assert_eq!(finish_with(child, &value), done(""));
+    let output = program(&server.path).args(["--raw", "read", "k"]).output();
+    let mut expected = value;
+    expected.push(b'\n');
+    assert_eq!(output.expect("its output").stdout, expected);
 }

@@ -1,11 +1,16 @@
-//! What the server looks at in a client's bytes before it feeds them: where the first message
-//! ends, and whether it is a command that the server has to know.
-//!
-//! The library alone decides what a message means. The server cuts by the same rules, so that a
-//! message is fed once, when it is whole.
+//! Where the messages in a client's bytes end. The server cuts by the same rules as the library, so
+//! that a message is fed once, when it is whole.
+
+use crate::command::Command;
+use std::collections::VecDeque;
 
 /// The longest message of a stream: a text line that is refused as over-long.
 pub const LONGEST: usize = 262_152;
+
+/// The most messages of a transaction that can be committed, its BEGIN and COMMIT included.
+const LONGEST_TRANSACTION: usize = 66;
+/// The most bytes of a transaction that is known again.
+const LONGEST_TALK: usize = 16_384;
 
 /// How a client's bytes are to be read.
 #[derive(Clone, Copy, Debug, PartialEq, Eq)]
@@ -30,48 +35,6 @@ impl Kind {
     }
 }
 
-/// What the server has to know of a message.
-#[derive(Clone, Copy, Debug, PartialEq, Eq)]
-pub enum Command {
-    /// HELP in text mode, which the server answers.
-    Help,
-    /// WRITE, which a read-only listener refuses.
-    Write,
-    /// Any other message, valid or not.
-    Other,
-}
-
-/// The command of a whole message.
-pub fn command(kind: Kind, message: &[u8]) -> Command {
-    match kind {
-        Kind::Text => text_command(message),
-        _ if message.first() == Some(&4) => Command::Write,
-        _ => Command::Other,
-    }
-}
-
-fn text_command(line: &[u8]) -> Command {
-    let start = line.iter().position(|&b| b != b' ').unwrap_or(line.len());
-    let word = &line[start..];
-    let end = word.iter().position(|b| b" \r\n".contains(b));
-    let word = &word[..end.unwrap_or(word.len())];
-    if word.eq_ignore_ascii_case(b"WRITE") || word.eq_ignore_ascii_case(b"w") {
-        Command::Write
-    } else if word.eq_ignore_ascii_case(b"HELP") {
-        Command::Help
-    } else {
-        Command::Other
-    }
-}
-
-/// Whether a message that was taken is an ERROR, which is a client's last one.
-pub fn is_error(kind: Kind, message: &[u8]) -> bool {
-    match kind {
-        Kind::Text => message.starts_with(b"ERROR "),
-        _ => message.first() == Some(&0x83),
-    }
-}
-
 /// The bytes of a client that are read and not fed yet.
 #[derive(Debug, Default)]
 pub struct Input {
@@ -81,7 +44,22 @@ pub struct Input {
     /// How many of these are known to hold no line end.
     scanned: usize,
     /// The lengths of the packets among these, of a client with packets.
-    packets: std::collections::VecDeque<usize>,
+    packets: VecDeque<usize>,
+    /// How far the last messages are looked through for effects.
+    survey: Survey,
+}
+
+/// How far the messages of an input that has ended are looked through for the last effect.
+#[derive(Debug, Default)]
+struct Survey {
+    /// Bytes and messages that are looked at.
+    seen: (usize, usize),
+    /// Bytes and messages up to the end of the last one with an effect.
+    kept: (usize, usize),
+    /// Whether no WRITE was seen since the last COMMIT, which then has no effect.
+    idle: bool,
+    /// Whether what is behind the last effect is dropped.
+    done: bool,
 }
 
 impl Input {
@@ -102,7 +80,7 @@ impl Input {
 
     /// Appends bytes of a stream.
     pub fn push(&mut self, bytes: &[u8]) {
-        if self.start > 0 {
+        if self.start > self.bytes.len() / 2 {
             self.bytes.drain(..self.start);
             self.start = 0;
         }
@@ -121,26 +99,97 @@ impl Input {
         match kind {
             Kind::Packets => self.packets.front().copied(),
             Kind::Open => None,
-            Kind::Framed => {
-                let (high, low) = (*bytes.get(1)?, *bytes.get(2)?);
-                let len = 3 + usize::from(u16::from_be_bytes([high, low]));
-                (bytes.len() >= len).then_some(len)
-            }
+            Kind::Framed => frame_length(bytes),
             Kind::Text => {
-                let new = &bytes[self.scanned..];
-                let end = new.iter().position(|b| b"\r\n".contains(b));
-                let found = end.map(|at| self.scanned + at + 1);
+                let found = line_length(bytes, self.scanned);
                 self.scanned = found.map_or(bytes.len(), |len| len - 1);
-                let longest = || (bytes.len() >= LONGEST).then_some(LONGEST);
-                found.filter(|&len| len <= LONGEST).or_else(longest)
+                found
             }
         }
+    }
+
+    /// A number of bytes that the first message has at least, without ID, length and line end: all
+    /// of them where it is whole or says how long it is.
+    pub fn least(&mut self, kind: Kind) -> usize {
+        let whole = self.whole(kind);
+        let bytes = &self.bytes[self.start..];
+        match (kind, whole) {
+            (Kind::Packets, _) => whole.unwrap_or(0).saturating_sub(1),
+            (Kind::Framed, _) => match bytes {
+                [_, high, low, ..] => usize::from(u16::from_be_bytes([*high, *low])),
+                _ => 0,
+            },
+            (_, Some(len)) => len - 1,
+            (_, None) => bytes.len(),
+        }
+    }
+
+    /// Goes on through the messages of an input that has ended, about `budget` bytes, for the last
+    /// one that others may see the effect of. True when that is found; what is behind it is dropped
+    /// then.
+    pub fn keep_effects(&mut self, kind: Kind, budget: usize) -> bool {
+        let until = self.survey.seen.0.saturating_add(budget);
+        while !self.survey.done && self.survey.seen.0 < until {
+            let (at, count) = self.survey.seen;
+            let bytes = &self.bytes[self.start + at..];
+            let found = match kind {
+                Kind::Packets => self.packets.get(count).copied(),
+                _ => stream_length(kind, bytes),
+            };
+            match found {
+                Some(len) => {
+                    self.survey.seen = (at + len, count + 1);
+                    let command = Command::of(kind, &bytes[..len]);
+                    let commits = command == Command::Commit && !self.survey.idle;
+                    if commits || command == Command::Write {
+                        self.survey.kept = self.survey.seen;
+                        self.survey.idle = commits;
+                    }
+                }
+                None => self.drop_tail(),
+            }
+        }
+        self.survey.done
+    }
+
+    fn drop_tail(&mut self) {
+        let (kept, count) = self.survey.kept;
+        self.bytes.truncate(self.start + kept);
+        self.packets.truncate(count);
+        self.scanned = self.scanned.min(kept);
+        self.survey.done = true;
     }
 
     /// The first `len` bytes.
     pub fn front(&self, len: usize) -> &[u8] {
         let bytes = &self.bytes[self.start..];
         &bytes[..len.min(bytes.len())]
+    }
+
+    /// The messages of a transaction that begins here and only asks for answers, if it is here up to
+    /// its end: the length of each in four bytes and its bytes, and the lengths alone.
+    pub fn transaction(&self, kind: Kind) -> Option<(Vec<u8>, Vec<usize>)> {
+        let (mut text, mut lengths, mut at) = (Vec::new(), Vec::new(), self.start);
+        while lengths.len() < LONGEST_TRANSACTION && text.len() < LONGEST_TALK {
+            let bytes = &self.bytes[at..];
+            let len = match kind {
+                Kind::Packets => self.packets.get(lengths.len()).copied(),
+                _ => stream_length(kind, bytes),
+            }?;
+            let command = Command::of(kind, &bytes[..len]);
+            let begins = command == Command::Begin;
+            if begins != lengths.is_empty() || !(begins || command.may_end_talk()) {
+                return None;
+            }
+            text.extend(u32::try_from(len).ok()?.to_be_bytes());
+            text.extend_from_slice(&bytes[..len]);
+            lengths.push(len);
+            at += len;
+            if command == Command::Commit {
+                return Some((text, lengths));
+            }
+        }
+        None
     }
 
     /// Removes the first message, of `len` bytes.
@@ -155,35 +204,33 @@ impl Input {
     }
 }
 
+/// The length of the first message of a stream if it is whole.
+fn stream_length(kind: Kind, bytes: &[u8]) -> Option<usize> {
+    match kind {
+        Kind::Packets | Kind::Open => None,
+        Kind::Framed => frame_length(bytes),
+        Kind::Text => line_length(bytes, 0),
+    }
+}
+
+/// The length of the first frame if it is whole.
+fn frame_length(bytes: &[u8]) -> Option<usize> {
+    let (high, low) = (*bytes.get(1)?, *bytes.get(2)?);
+    let len = 3 + usize::from(u16::from_be_bytes([high, low]));
+    (bytes.len() >= len).then_some(len)
+}
+
+/// The length of the first line if it is whole or over-long; its first `scanned` bytes hold no end.
+fn line_length(bytes: &[u8], scanned: usize) -> Option<usize> {
+    let end = bytes[scanned..].iter().position(|b| b"\r\n".contains(b));
+    let found = end.map(|at| scanned + at + 1);
+    let longest = || (bytes.len() >= LONGEST).then_some(LONGEST);
+    found.filter(|&len| len <= LONGEST).or_else(longest)
+}
+
 #[cfg(test)]
 mod tests {
     use super::*;
-
-    #[test]
-    fn words_are_found_as_the_library_finds_them() {
-        let text = |line: &str| command(Kind::Text, line.as_bytes());
-        for line in ["WRITE k v\n", "  w k\r", "wRiTe", "w\n"] {
-            assert_eq!(text(line), Command::Write, "{line:?}");
-        }
-        for line in ["HELP\n", " help me\r", "Help"] {
-            assert_eq!(text(line), Command::Help, "{line:?}");
-        }
-        for line in [
-            "",
-            "\n",
-            "   \n",
-            "WRITER k\n",
-            "\"WRITE\" k\n",
-            "\tw k\n",
-            "HELPS\n",
-        ] {
-            assert_eq!(text(line), Command::Other, "{line:?}");
-        }
-        assert_eq!(command(Kind::Framed, b"\x04\x00\x01k"), Command::Write);
-        assert_eq!(command(Kind::Packets, b"\x04k"), Command::Write);
-        assert_eq!(command(Kind::Packets, b"HELP"), Command::Other);
-        assert_eq!(command(Kind::Packets, b""), Command::Other);
-    }
 
     #[test]
     fn messages_are_cut_at_every_byte() {

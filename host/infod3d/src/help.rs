@@ -23,13 +23,44 @@ pub fn no_slot(slots: usize) -> String {
     format!("# no free slot: {slots} clients are connected, try again later\r\n")
 }
 
+/// The line for a client that sent WRITE to a read-only listener.
+pub const READ_ONLY: &str = "# read-only: this listener takes no WRITE\r\n";
+
+/// The line for a client that sends more than its listener takes: a longer message, key or pattern,
+/// or a transaction of more commands.
+pub fn too_long(what: &str, limit: usize) -> String {
+    let unit = unit(what);
+    format!("# too long: this listener takes a {what} of at most {limit} {unit}\r\n")
+}
+
+/// What the limit of such a thing counts.
+pub fn unit(what: &str) -> &'static str {
+    match what {
+        "transaction" => "commands",
+        _ => "bytes",
+    }
+}
+
+/// The line for a client that sent no message in time.
+pub fn silent(seconds: u64) -> String {
+    format!("# no message within {seconds} seconds\r\n")
+}
+
 #[cfg(test)]
 mod tests {
     use super::*;
 
     #[test]
     fn every_line_is_marked_and_ended() {
-        for text in [PAGE, &no_slot(32)] {
+        let long = [too_long("message", 65_535), too_long("transaction", 8)];
+        for text in [
+            PAGE,
+            READ_ONLY,
+            &no_slot(32),
+            &long[0],
+            &long[1],
+            &silent(30),
+        ] {
             assert!(text.ends_with("\r\n"));
             for line in text.split_terminator("\r\n") {
                 assert!(line.starts_with('#') && line.len() < 90 && line.is_ascii());

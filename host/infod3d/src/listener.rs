@@ -1,13 +1,14 @@
 //! The sockets on which clients arrive.
 
-use crate::options::{Access, UnixRights};
+use crate::options::ListenerOptions;
+use crate::shown;
 use crate::socket::Socket;
+use crate::socket_file::{file_number, publish, FileNumber};
 use crate::sys;
 use std::fmt;
 use std::io;
 use std::net::{SocketAddr, TcpListener};
 use std::os::fd::{AsFd, AsRawFd, OwnedFd, RawFd};
-use std::os::unix::fs::{FileTypeExt, MetadataExt, PermissionsExt};
 use std::os::unix::net::UnixListener;
 use std::path::{Path, PathBuf};
 use std::time::Instant;
@@ -23,12 +24,19 @@ pub enum Place {
     Packets(PathBuf),
 }
 
+impl Place {
+    /// Whether other machines may reach it.
+    pub fn is_remote(&self) -> bool {
+        matches!(self, Place::Tcp(address) if !address.ip().is_loopback())
+    }
+}
+
 impl fmt::Display for Place {
     fn fmt(&self, f: &mut fmt::Formatter<'_>) -> fmt::Result {
         match self {
             Place::Tcp(address) => write!(f, "tcp {address}"),
-            Place::Unix(path) => write!(f, "unix {}", path.display()),
-            Place::Packets(path) => write!(f, "seqpacket {}", path.display()),
+            Place::Unix(path) => write!(f, "unix {}", shown::path(path)),
+            Place::Packets(path) => write!(f, "seqpacket {}", shown::path(path)),
         }
     }
 }
@@ -44,60 +52,38 @@ enum Acceptor {
 #[derive(Debug)]
 pub struct Listener {
     acceptor: Acceptor,
-    /// Where it is, with the port that the system chose for port 0.
-    pub place: Place,
-    /// What its clients may do.
-    pub access: Access,
+    /// Where it is, with the port that the system chose for port 0, and what holds for its
+    /// clients.
+    pub options: ListenerOptions,
     /// Device and number of the socket's file, so that only the own file is removed.
-    file: Option<(u64, u64)>,
+    file: Option<FileNumber>,
     /// Until then nothing is accepted, after an error.
     pub paused: Option<Instant>,
 }
 
 impl Listener {
-    /// A listener on a TCP port; port 0 lets the system choose.
-    pub fn tcp(address: SocketAddr, access: Access) -> io::Result<Listener> {
-        let listener = TcpListener::bind(address)?;
-        listener.set_nonblocking(true)?;
-        let place = Place::Tcp(listener.local_addr()?);
-        Ok(Listener::new(Acceptor::Tcp(listener), place, access))
-    }
-
-    /// A listener at a Unix socket. A file that a dead server left is replaced.
-    pub fn unix(path: &Path, access: Access, rights: &UnixRights) -> io::Result<Listener> {
-        remove_stale(path)?;
-        let made = sys::with_mode(rights.mode & 0o600, || UnixListener::bind(path))?;
-        made.set_nonblocking(true)?;
-        let place = Place::Unix(path.to_owned());
-        Listener::new(Acceptor::Unix(made), place, access).with_rights(path, rights)
-    }
-
-    /// A listener at a Unix seqpacket socket, in the same way.
-    pub fn packets(path: &Path, access: Access, rights: &UnixRights) -> io::Result<Listener> {
-        remove_stale(path)?;
-        let made = sys::with_mode(rights.mode & 0o600, || sys::listen_packets(path))?;
-        let place = Place::Packets(path.to_owned());
-        Listener::new(Acceptor::Packets(made), place, access).with_rights(path, rights)
-    }
-
-    fn new(acceptor: Acceptor, place: Place, access: Access) -> Listener {
-        Listener {
+    /// Listens as the options say. The file that a dead server left at the path of a Unix socket
+    /// is replaced.
+    pub fn new(options: &ListenerOptions) -> io::Result<Listener> {
+        let mut options = options.clone();
+        let rights = options.rights.clone();
+        let (acceptor, file) = match &mut options.place {
+            Place::Tcp(address) => (tcp(address)?, None),
+            Place::Unix(path) => {
+                let (made, file) = publish(path, &rights, listen_streams)?;
+                (Acceptor::Unix(made), Some(file))
+            }
+            Place::Packets(path) => {
+                let (made, file) = publish(path, &rights, sys::listen_packets)?;
+                (Acceptor::Packets(made), Some(file))
+            }
+        };
+        Ok(Listener {
             acceptor,
-            place,
-            access,
-            file: None,
+            options,
+            file,
             paused: None,
-        }
-    }
-
-    /// Gives the socket's file its owner, then its mode.
-    fn with_rights(mut self, path: &Path, rights: &UnixRights) -> io::Result<Listener> {
-        self.file = file_number(path);
-        if rights.uid.is_some() || rights.gid.is_some() {
-            std::os::unix::fs::chown(path, rights.uid, rights.gid)?;
-        }
-        std::fs::set_permissions(path, std::fs::Permissions::from_mode(rights.mode))?;
-        Ok(self)
+        })
     }
 
     /// The descriptor to wait for.
@@ -146,10 +132,24 @@ impl Listener {
     }
 }
 
+/// Listens on a TCP port and puts the port into the address that the system chose.
+fn tcp(address: &mut SocketAddr) -> io::Result<Acceptor> {
+    let listener = TcpListener::bind(*address)?;
+    listener.set_nonblocking(true)?;
+    *address = listener.local_addr()?;
+    Ok(Acceptor::Tcp(listener))
+}
+
+fn listen_streams(path: &Path) -> io::Result<UnixListener> {
+    let listener = UnixListener::bind(path)?;
+    listener.set_nonblocking(true)?;
+    Ok(listener)
+}
+
 impl Drop for Listener {
     /// Removes the socket's file, if it is still the one that was made.
     fn drop(&mut self) {
-        if let Place::Unix(path) | Place::Packets(path) = &self.place {
+        if let Place::Unix(path) | Place::Packets(path) = &self.options.place {
             if self.file.is_some() && self.file == file_number(path) {
                 let _ = std::fs::remove_file(path);
             }
@@ -164,19 +164,30 @@ fn unix_peer(sort: &str, fd: std::os::fd::BorrowedFd<'_>) -> String {
     }
 }
 
-fn file_number(path: &Path) -> Option<(u64, u64)> {
-    let data = std::fs::symlink_metadata(path).ok()?;
-    Some((data.dev(), data.ino()))
-}
+#[cfg(test)]
+mod tests {
+    use super::*;
+    use std::net::TcpStream;
 
-/// Removes a socket's file that nobody listens at. Anything else at the path is an error.
-fn remove_stale(path: &Path) -> io::Result<()> {
-    let in_use = |text| Err(io::Error::new(io::ErrorKind::AddrInUse, text));
-    match std::fs::symlink_metadata(path) {
-        Err(error) if error.kind() == io::ErrorKind::NotFound => Ok(()),
-        Err(error) => Err(error),
-        Ok(data) if !data.file_type().is_socket() => in_use("the path is taken by another file"),
-        Ok(_) if sys::somebody_listens(path)? => in_use("a server listens there already"),
-        Ok(_) => std::fs::remove_file(path),
+    #[test]
+    fn a_dead_tcp_client_is_found_within_two_minutes() {
+        let address = "127.0.0.1:0".parse().unwrap();
+        let listener = Listener::new(&ListenerOptions::tcp(address)).unwrap();
+        let Place::Tcp(address) = listener.options.place else {
+            panic!("a TCP port");
+        };
+        let _client = TcpStream::connect(address).unwrap();
+        let mut fds = [sys::PollFd::new(listener.fd(), sys::POLLIN)];
+        sys::wait(&mut fds, 30_000).unwrap();
+        let (socket, _) = listener.accept().unwrap().expect("a client");
+        let Socket::Tcp(stream) = socket else {
+            panic!("a TCP stream");
+        };
+        let found = sys::keep_alive_of(stream.as_fd()).unwrap();
+        let [on, silence, question, user_timeout] = found.map(i64::from);
+        assert_eq!((on, user_timeout), (1, 100_000));
+        // The question at which the silence has lasted for the user timeout.
+        let questions = (user_timeout / 1000 - silence + question - 1) / question;
+        assert!(silence + questions * question <= 120);
     }
 }

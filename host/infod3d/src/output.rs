@@ -19,6 +19,8 @@ pub struct Output {
     start: usize,
     /// The lengths of the messages among these, of a client with packets.
     packets: VecDeque<usize>,
+    /// The socket took less than there was when it was last written to.
+    stuck: bool,
 }
 
 impl Output {
@@ -35,6 +37,11 @@ impl Output {
     /// Whether no message may be taken for this client now.
     pub fn is_full(&self) -> bool {
         self.len() >= MARK
+    }
+
+    /// Whether bytes wait for the socket, which took less than there was.
+    pub fn is_stuck(&self) -> bool {
+        self.stuck
     }
 
     /// Appends a message.
@@ -58,6 +65,7 @@ impl Output {
     /// together, packets one by one. That the socket takes no more is no error.
     pub fn write_to(&mut self, socket: &mut Socket) -> io::Result<usize> {
         let mut written = 0;
+        self.stuck = false;
         while !self.is_empty() {
             let waiting = &self.bytes[self.start..];
             let part = self.packets.front().map_or(waiting, |&len| &waiting[..len]);
@@ -69,7 +77,10 @@ impl Output {
                     written += n;
                 }
                 Err(error) if error.kind() == io::ErrorKind::Interrupted => {}
-                Err(error) if error.kind() == io::ErrorKind::WouldBlock => break,
+                Err(error) if error.kind() == io::ErrorKind::WouldBlock => {
+                    self.stuck = true;
+                    break;
+                }
                 Err(error) => return Err(error),
             }
         }

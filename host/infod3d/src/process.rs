@@ -1,6 +1,7 @@
 //! A server as a process of its own, for programs that exercise it: started on ports and paths
 //! that are free, and stopped at the end.
 
+use crate::options::escaped;
 use std::io::{self, BufRead, BufReader};
 use std::net::SocketAddr;
 use std::path::{Path, PathBuf};
@@ -25,7 +26,7 @@ impl Process {
         let unix = std::env::temp_dir().join(name);
         let mut child = Command::new(program)
             .args(["--tcp", "127.0.0.1:0", "--unix"])
-            .arg(&unix)
+            .arg(escaped(&unix))
             .args(arguments)
             .stdin(Stdio::null())
             .stderr(Stdio::piped())
@@ -61,7 +62,7 @@ fn first_port(child: &mut Child) -> Option<SocketAddr> {
             return None;
         }
         if let Some((_, place)) = line.split_once(" listen tcp ") {
-            port = place.trim().parse().ok();
+            port = place.split_whitespace().next()?.parse().ok();
         }
         if line.contains(" listen unix ") {
             break;

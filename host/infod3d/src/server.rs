@@ -1,25 +1,33 @@
-//! The loop: waits for all sockets at once, reads, feeds, takes and writes, a bounded amount for
-//! each client and turn. How clients come and go is in `coming`, what is done for them in
-//! `feeding`.
+//! The loop: waits for all sockets at once, reads, works for a bounded time and writes. How clients
+//! come and go is in `coming`; who is served next is in `work`, what is done for them in `feeding`
+//! and `taking`; how the server stops is in `stopping`, what it says of itself in `telling`.
 
 mod coming;
 mod feeding;
+mod stopping;
+mod taking;
+mod telling;
+mod work;
 
 use crate::client::Client;
 use crate::counters::Counters;
 use crate::cut::LONGEST;
+use crate::folder;
 use crate::listener::{Listener, Place};
 use crate::log::Log;
-use crate::options::{Access, Options};
+use crate::metrics::Metrics;
+use crate::notify::Manager;
+use crate::options::Options;
 use crate::socket::Socket;
 use crate::sys::{self, PollFd};
-use crate::view::View;
-use infod3::{Broker, Error};
+use infod3::{Broker, Error, View};
 use std::fmt;
 use std::io::{self, Read, Write};
 use std::os::fd::AsRawFd;
 use std::os::unix::net::UnixStream;
 use std::time::{Duration, Instant};
+use stopping::Stopping;
+use work::Costs;
 
 /// Why the server cannot start or go on.
 #[derive(Debug)]
@@ -88,6 +96,8 @@ pub struct Server {
     listeners: Vec<Listener>,
     /// The clients by their slots.
     clients: Vec<Option<Client>>,
+    /// The listener that the client in each slot came by, or the last one before it.
+    origins: Vec<usize>,
     /// Sockets of closed clients, whose last bytes are dropped until then.
     partings: Vec<(Socket, Instant)>,
     counters: Counters,
@@ -96,9 +106,17 @@ pub struct Server {
     asking: UnixStream,
     started: Instant,
     stats: Option<(Duration, Instant)>,
+    metrics: Option<Metrics>,
+    manager: Option<Manager>,
     patience: Duration,
-    /// The slot that is fed first in the next turn.
-    first: usize,
+    first_message: Option<Duration>,
+    costs: Costs,
+    /// Time that was spent on others in a client's stretch, for which these have paid.
+    paid: Duration,
+    /// How often the store may have changed.
+    changes: u64,
+    /// Set once the server is to stop.
+    stopping: Option<Stopping>,
     read_room: Vec<u8>,
     take_room: Vec<u8>,
 }
@@ -114,11 +132,14 @@ impl Server {
             end.set_nonblocking(true).map_err(Failure::System)?;
         }
         let now = Instant::now();
-        let mut server = Server {
+        let metrics = options.metrics.as_ref();
+        let metrics = metrics.map(|path| Metrics::start(path, options.metrics_period, now));
+        Ok(Server {
             broker,
             view,
             listeners,
             clients: (0..options.sizes.slots()).map(|_| None).collect(),
+            origins: vec![0; options.sizes.slots()],
             partings: Vec::new(),
             counters: Counters::default(),
             log,
@@ -126,37 +147,23 @@ impl Server {
             asking,
             started: now,
             stats: options.stats.map(|period| (period, now + period)),
+            metrics: metrics.transpose().map_err(Failure::System)?,
+            manager: None,
             patience: options.patience,
-            first: 0,
+            first_message: options.first_message,
+            costs: Costs::new(options.sizes.slots(), now),
+            paid: Duration::ZERO,
+            changes: 0,
+            stopping: None,
             read_room: vec![0; LONGEST],
             take_room: vec![0; options.sizes.queue()],
-        };
-        server.announce(options);
-        Ok(server)
-    }
-
-    fn announce(&mut self, options: &Options) {
-        let (sizes, pid) = (options.sizes, std::process::id());
-        self.log.notice(format_args!(
-            "start pid={pid} slots={} store={} queue={} record={}",
-            sizes.slots(),
-            sizes.store(),
-            sizes.queue(),
-            sizes.recording()
-        ));
-        for listener in &self.listeners {
-            let access = match listener.access {
-                Access::Full => "",
-                Access::ReadOnly => " read-only",
-            };
-            self.log
-                .notice(format_args!("listen {}{access}", listener.place));
-        }
+        })
     }
 
     /// Where the server listens, with the ports that the system chose.
     pub fn places(&self) -> Vec<Place> {
-        self.listeners.iter().map(|l| l.place.clone()).collect()
+        let places = self.listeners.iter().map(|l| &l.options.place);
+        places.cloned().collect()
     }
 
     /// A handle for another thread.
@@ -165,22 +172,27 @@ impl Server {
         Ok(Handle { pipe })
     }
 
-    /// Lets SIGINT and SIGTERM stop this server and SIGUSR1 write its counters. A process has one
-    /// server with signals.
+    /// Lets SIGINT, SIGTERM and SIGHUP stop this server and SIGUSR1 write its counters. A process
+    /// has one server with signals; for a second one this is an error.
     pub fn take_signals(&self) -> io::Result<()> {
-        let numbers = [sys::SIGINT, sys::SIGTERM, sys::SIGUSR1];
-        sys::signals_to(self.asking.as_raw_fd(), &numbers)
+        let numbers = [sys::SIGHUP, sys::SIGINT, sys::SIGTERM, sys::SIGUSR1];
+        sys::signals_to(self.asking.try_clone()?.into(), &numbers)
     }
 
-    /// Serves until it is stopped, and gives the counters.
+    /// Serves until it is stopped, and gives the counters. From its first line in the log on, a
+    /// signal that was taken stops it.
     pub fn run(mut self) -> Result<Counters, Failure> {
-        while self.turn()? {}
-        self.stop();
+        self.announce();
+        while !self.has_stopped() {
+            self.turn()?;
+        }
+        self.close_all();
+        self.write_counters();
+        self.finish_metrics();
         Ok(self.counters)
     }
 
-    /// One turn; false when the server is to stop.
-    fn turn(&mut self) -> Result<bool, Failure> {
+    fn turn(&mut self) -> Result<(), Failure> {
         let now = Instant::now();
         let (mut fds, sources) = self.poll_list(now);
         let timeout = self.timeout(now);
@@ -190,23 +202,22 @@ impl Server {
         for (fd, source) in fds.iter().zip(&sources) {
             match *source {
                 _ if fd.revents == 0 => {}
-                Source::Requests if !self.answer_requests() => return Ok(false),
-                Source::Requests => {}
+                Source::Requests => self.answer_requests(now),
                 Source::Listener(index) => arrivals.push(index),
-                Source::Client(slot) => self.serve(slot, fd, now)?,
+                Source::Client(slot) => self.serve(slot, fd, now),
                 Source::Parting(index) => self.drop_input(index, now),
             }
         }
-        self.feed_all(now)?;
-        self.write_all(now)?;
-        self.close_done(now)?;
+        self.work()?;
+        self.write_all(Instant::now());
+        self.close_done(Instant::now())?;
         self.partings.retain(|(_, until)| *until > now);
         // Those who come find the slots of those who have just gone.
         for index in arrivals {
             self.accept(index, now)?;
         }
         self.write_stats(now);
-        Ok(true)
+        Ok(())
     }
 
     /// The descriptors to wait for. Those of clients are there even without events, since errors
@@ -216,12 +227,12 @@ impl Server {
         let mut sources = vec![Source::Requests];
         for (index, listener) in self.listeners.iter_mut().enumerate() {
             listener.paused = listener.paused.filter(|until| *until > now);
-            if listener.paused.is_none() {
+            if listener.paused.is_none() && self.stopping.is_none() {
                 fds.push(PollFd::new(listener.fd(), sys::POLLIN));
                 sources.push(Source::Listener(index));
             }
         }
-        for (slot, client) in self.clients.iter().enumerate() {
+        for (slot, client) in self.clients.iter_mut().enumerate() {
             if let Some(client) = client {
                 fds.push(PollFd::new(client.socket.fd(), client.events()));
                 sources.push(Source::Client(slot));
@@ -234,19 +245,23 @@ impl Server {
         (fds, sources)
     }
 
-    /// How long to wait at most, in milliseconds: not at all while a whole message waits, else
-    /// until the next moment at which something is due.
+    /// How long to wait at most, in milliseconds: not at all while there is work, else until the
+    /// next moment at which something is due.
     fn timeout(&mut self, now: Instant) -> i32 {
+        for slot in 0..self.clients.len() {
+            self.look(slot, now);
+        }
         if self.clients.iter_mut().flatten().any(Client::has_work) {
             return 0;
         }
-        let patience = self.patience;
-        let waiting = self.clients.iter().flatten().filter(|c| c.is_waiting());
-        let moments = waiting
-            .map(|client| client.progress + patience)
+        let patience = self.patience();
+        let clients = self.clients.iter().flatten();
+        let moments = clients
+            .filter_map(|client| client.due(patience, self.first_message))
             .chain(self.partings.iter().map(|(_, until)| *until))
             .chain(self.listeners.iter().filter_map(|l| l.paused))
-            .chain(self.stats.map(|(_, next)| next));
+            .chain(self.due())
+            .chain(self.stopping.as_ref().map(Stopping::next));
         match moments.min() {
             None => -1,
             Some(moment) => {
@@ -256,88 +271,55 @@ impl Server {
         }
     }
 
-    /// Reads what was asked of the server; false where it is to stop.
-    fn answer_requests(&mut self) -> bool {
+    /// Reads what was asked of the server.
+    fn answer_requests(&mut self, now: Instant) {
         let mut bytes = [0; 64];
         let read = self.requests.read(&mut bytes).unwrap_or(0);
         for &byte in &bytes[..read] {
             match i32::from(byte) {
                 sys::SIGUSR1 => self.write_counters(),
-                number => {
-                    self.log.notice(format_args!("stop signal={number}"));
-                    return false;
-                }
-            }
-        }
-        true
-    }
-
-    fn write_counters(&mut self) {
-        let clients = self.clients.iter().flatten().count();
-        let keys = self.view.and_then(|view| view.keys(self.broker.memory()));
-        let keys = keys.map_or("unknown".to_owned(), |keys| keys.to_string());
-        let seconds = self.started.elapsed().as_secs();
-        self.log.notice(format_args!(
-            "counters seconds={seconds} clients={clients} keys={keys} {}",
-            self.counters
-        ));
-    }
-
-    fn write_stats(&mut self, now: Instant) {
-        if let Some((period, next)) = self.stats {
-            if next <= now {
-                self.stats = Some((period, now + period));
-                self.write_counters();
+                number => self.begin_stop(number, now),
             }
         }
     }
 
     /// Reads and writes what a client's socket is ready for.
-    fn serve(&mut self, slot: usize, fd: &PollFd, now: Instant) -> Result<(), Failure> {
+    fn serve(&mut self, slot: usize, fd: &PollFd, now: Instant) {
         let Some(client) = &mut self.clients[slot] else {
-            return Ok(());
+            return;
         };
-        if fd.found(sys::POLLHUP | sys::POLLERR | sys::POLLNVAL) {
+        let begin = sys::thread_time();
+        let failed = sys::POLLHUP | sys::POLLERR | sys::POLLNVAL;
+        if fd.found(failed) {
             client.lose(None);
         }
-        let failed = sys::POLLHUP | sys::POLLERR | sys::POLLNVAL;
         if client.leaving.is_none() && fd.found(sys::POLLIN | failed) {
             self.counters.bytes_in += client.read(&mut self.read_room, now) as u64;
         }
         if fd.found(sys::POLLOUT) {
             self.counters.bytes_out += client.write(now) as u64;
         }
-        if client.queued {
-            self.collect(slot, now)?;
-        }
-        Ok(())
+        self.charge(slot, sys::thread_time() - begin);
     }
 }
 
-/// All listeners of the options.
+/// All listeners of the options, and first the folder that one of them may need.
 fn listeners(options: &Options) -> Result<Vec<Listener>, Failure> {
-    let mut made = Vec::new();
-    let rights = &options.rights;
-    for &address in &options.tcp {
-        let listener = Listener::tcp(address, options.tcp_access);
-        made.push(listener.map_err(|e| Failure::Listen(Place::Tcp(address).to_string(), e))?);
+    if let Some(path) = &options.private_folder {
+        let wrong = |error| Failure::Listen(format!("a socket in {}", path.display()), error);
+        folder::make_private(path).map_err(wrong)?;
     }
-    for path in &options.unix {
-        let listener = Listener::unix(path, options.unix_access, rights);
-        let place = Place::Unix(path.clone());
-        made.push(listener.map_err(|e| Failure::Listen(place.to_string(), e))?);
-    }
-    for path in &options.packets {
-        let listener = Listener::packets(path, options.packets_access, rights);
-        let place = Place::Packets(path.clone());
-        made.push(listener.map_err(|e| Failure::Listen(place.to_string(), e))?);
-    }
-    Ok(made)
+    let made = options.listeners.iter().map(|listener| {
+        let wrong = |error| Failure::Listen(listener.place.to_string(), error);
+        Listener::new(listener).map_err(wrong)
+    });
+    made.collect()
 }
 
 #[cfg(test)]
 mod tests {
     use super::*;
+    use crate::options::ListenerOptions;
     use infod3::Sizes;
 
     /// A memory of another layout than the known one has no view; the calls alone must do.
@@ -345,7 +327,7 @@ mod tests {
     fn the_calls_alone_are_enough() {
         let path = std::env::temp_dir().join(format!("infod3d-view-{}", std::process::id()));
         let options = Options {
-            unix: vec![path.clone()],
+            listeners: vec![ListenerOptions::unix(&path)],
             sizes: Sizes::new(3, 4096, 4096, 256).unwrap(),
             ..Options::default()
         };

@@ -1,15 +1,23 @@
-//! The calls of the system that std lacks, declared by hand for Linux: `poll`, signals, Unix
-//! seqpacket sockets, the credentials of a peer, keep-alive and the mask of file modes.
+//! The calls of the system that std lacks, declared by hand for Linux: `poll`, Unix seqpacket
+//! sockets, the credentials of a peer and keep-alive; signals and folders by descriptor are in
+//! modules of their own. Each declaration names the page of the manual that it was checked
+//! against.
 //!
 //! This is the only module of the server with `unsafe` in it. Every function is safe for every
 //! argument, and an error is that of `errno`.
 
-use std::ffi::{c_int, c_short, c_ulong, c_void};
+mod files;
+mod signals;
+
+pub use files::Folder;
+pub use signals::{signals_to, SIGHUP, SIGINT, SIGTERM, SIGUSR1};
+
+use std::ffi::{c_int, c_long, c_short, c_ulong, c_void};
 use std::io;
 use std::os::fd::{AsRawFd, BorrowedFd, FromRawFd, OwnedFd, RawFd};
 use std::os::unix::ffi::OsStrExt;
 use std::path::Path;
-use std::sync::atomic::{AtomicI32, Ordering};
+use std::time::Duration;
 
 #[cfg(not(target_os = "linux"))]
 compile_error!("the numbers of this module are those of Linux");
@@ -27,13 +35,6 @@ pub const POLLNVAL: c_short = 0x020;
 /// The peer writes no more.
 pub const POLLRDHUP: c_short = 0x2000;
 
-/// Ctrl-C on the terminal.
-pub const SIGINT: c_int = 2;
-/// The request to write the counters.
-pub const SIGUSR1: c_int = 10;
-/// The request to stop.
-pub const SIGTERM: c_int = 15;
-
 const AF_UNIX: c_int = 1;
 const SOCK_STREAM: c_int = 1;
 const SOCK_SEQPACKET: c_int = 5;
@@ -48,7 +49,7 @@ const SO_PEERCRED: c_int = 17;
 const IPPROTO_TCP: c_int = 6;
 const TCP_KEEPIDLE: c_int = 4;
 const TCP_KEEPINTVL: c_int = 5;
-const TCP_KEEPCNT: c_int = 6;
+const TCP_USER_TIMEOUT: c_int = 18;
 const BACKLOG: c_int = 128;
 
 /// A descriptor to wait for: `struct pollfd`.
@@ -97,21 +98,53 @@ struct UnixAddress {
 }
 
 extern "C" {
+    /// `poll(2)`
     fn poll(fds: *mut PollFd, count: c_ulong, timeout: c_int) -> c_int;
-    fn signal(number: c_int, handler: usize) -> usize;
-    fn write(fd: c_int, bytes: *const c_void, len: usize) -> isize;
+    /// `socket(2)`
     fn socket(domain: c_int, kind: c_int, protocol: c_int) -> c_int;
+    /// `bind(2)`, `unix(7)`
     fn bind(fd: c_int, address: *const UnixAddress, len: u32) -> c_int;
+    /// `listen(2)`
     fn listen(fd: c_int, backlog: c_int) -> c_int;
+    /// `connect(2)`, `unix(7)`
     fn connect(fd: c_int, address: *const UnixAddress, len: u32) -> c_int;
+    /// `accept(2)`
     fn accept4(fd: c_int, address: *mut c_void, len: *mut u32, flags: c_int) -> c_int;
+    /// `recv(2)`
     fn recv(fd: c_int, bytes: *mut c_void, len: usize, flags: c_int) -> isize;
+    /// `send(2)`
     fn send(fd: c_int, bytes: *const c_void, len: usize, flags: c_int) -> isize;
+    /// `shutdown(2)`
     fn shutdown(fd: c_int, how: c_int) -> c_int;
+    /// `getsockopt(2)`, `socket(7)`, `unix(7)`
     fn getsockopt(fd: c_int, level: c_int, name: c_int, value: *mut c_void, len: *mut u32)
         -> c_int;
+    /// `setsockopt(2)`, `socket(7)`, `tcp(7)`
     fn setsockopt(fd: c_int, level: c_int, name: c_int, value: *const c_void, len: u32) -> c_int;
-    fn umask(mask: u32) -> u32;
+    /// `geteuid(2)`
+    fn geteuid() -> u32;
+    /// `clock_gettime(2)`
+    fn clock_gettime(clock: c_int, time: *mut TimeSpec) -> c_int;
+}
+
+/// `struct timespec` of `timespec(3type)`.
+#[repr(C)]
+#[derive(Default)]
+struct TimeSpec {
+    seconds: c_long,
+    nanoseconds: c_long,
+}
+
+/// The clock of the processor time of a thread, of `clock_gettime(2)`.
+const CLOCK_THREAD_CPUTIME_ID: c_int = 3;
+
+/// The processor time that this thread has used; what the system runs in between does not count.
+pub fn thread_time() -> Duration {
+    let mut time = TimeSpec::default();
+    // SAFETY: the time is a whole `struct timespec`, which the call alone writes.
+    unsafe { clock_gettime(CLOCK_THREAD_CPUTIME_ID, &mut time) };
+    let seconds = u64::try_from(time.seconds).unwrap_or(0);
+    Duration::new(seconds, u32::try_from(time.nanoseconds).unwrap_or(0))
 }
 
 /// The result of a call that answers -1 with `errno`.
@@ -148,38 +181,6 @@ pub fn wait(fds: &mut [PollFd], timeout: c_int) -> io::Result<()> {
         }
         other => other.map(|_| ()),
     }
-}
-
-/// Where the signal handler writes.
-static SIGNAL_PIPE: AtomicI32 = AtomicI32::new(-1);
-
-/// Writes the signal's number as one byte into the pipe.
-extern "C" fn note_signal(number: c_int) {
-    let byte = number as u8;
-    // SAFETY: `write` may be called in a signal handler; the byte lives during the call. A pipe
-    // that is full or closed is an error that nobody needs to know of: bytes before it are
-    // waiting, or the server has ended.
-    unsafe {
-        write(
-            SIGNAL_PIPE.load(Ordering::Relaxed),
-            (&raw const byte).cast(),
-            1,
-        );
-    }
-}
-
-/// From now on each of these signals writes its number as one byte to the descriptor, which must
-/// stay open and not block.
-pub fn signals_to(fd: RawFd, numbers: &[c_int]) -> io::Result<()> {
-    SIGNAL_PIPE.store(fd, Ordering::Relaxed);
-    for &number in numbers {
-        // SAFETY: the handler calls only `write` on an atomic number, which a handler may do.
-        let before = unsafe { signal(number, note_signal as *const () as usize) };
-        if before == usize::MAX {
-            return Err(io::Error::last_os_error());
-        }
-    }
-    Ok(())
 }
 
 /// The address of a Unix socket; a path has at most 107 bytes and no NUL.
@@ -314,16 +315,20 @@ pub fn peer_credentials(fd: BorrowedFd<'_>) -> io::Result<Credentials> {
     Ok(found)
 }
 
-/// Lets the system find out within about two minutes that a silent TCP peer is dead.
+/// When the system takes a TCP peer for dead: a silent one is asked after 60 seconds and then every
+/// 15, and where no answer has come for 100 seconds, to a question or to data, the connection ends:
+/// after 105 seconds at most. With `TCP_USER_TIMEOUT` the number of questions does not count.
+const KEEP_ALIVE: [(c_int, c_int, c_int); 4] = [
+    (SOL_SOCKET, SO_KEEPALIVE, 1),
+    (IPPROTO_TCP, TCP_KEEPIDLE, 60),
+    (IPPROTO_TCP, TCP_KEEPINTVL, 15),
+    (IPPROTO_TCP, TCP_USER_TIMEOUT, 100_000),
+];
+
+/// Lets the system find out within two minutes that a TCP peer is dead, whether it is silent or
+/// does not acknowledge what is sent to it.
 pub fn keep_alive(fd: BorrowedFd<'_>) -> io::Result<()> {
-    let settings = [
-        (SOL_SOCKET, SO_KEEPALIVE, 1),
-        (IPPROTO_TCP, TCP_KEEPIDLE, 60),
-        (IPPROTO_TCP, TCP_KEEPINTVL, 15),
-        (IPPROTO_TCP, TCP_KEEPCNT, 4),
-    ];
-    for (level, name, value) in settings {
-        let value: c_int = value;
+    for (level, name, value) in KEEP_ALIVE {
         let len = size_of::<c_int>() as u32;
         // SAFETY: the value is a number of the length given, which is only read.
         checked(unsafe {
@@ -333,12 +338,29 @@ pub fn keep_alive(fd: BorrowedFd<'_>) -> io::Result<()> {
     Ok(())
 }
 
-/// Runs `make` while new files get no right beyond `mode`, and puts the old mask back.
-pub fn with_mode<T>(mode: u32, make: impl FnOnce() -> T) -> T {
-    // SAFETY: one number; the call cannot fail.
-    let before = unsafe { umask(!mode & 0o777) };
-    let made = make();
-    // SAFETY: as above.
-    unsafe { umask(before) };
-    made
+/// The numbers of keep-alive that a socket has: whether it is on, the seconds of silence and
+/// between questions, and the milliseconds without an answer.
+#[cfg(test)]
+pub fn keep_alive_of(fd: BorrowedFd<'_>) -> io::Result<[c_int; 4]> {
+    let mut found = [0; 4];
+    for ((level, name, _), value) in KEEP_ALIVE.into_iter().zip(&mut found) {
+        let mut len = size_of::<c_int>() as u32;
+        // SAFETY: the value is a number of the length given, and so is the length itself.
+        checked(unsafe {
+            getsockopt(
+                fd.as_raw_fd(),
+                level,
+                name,
+                (value as *mut c_int).cast(),
+                &mut len,
+            )
+        })?;
+    }
+    Ok(found)
+}
+
+/// The user whose rights the process has: `geteuid(2)`.
+pub fn user() -> u32 {
+    // SAFETY: no argument; the call cannot fail.
+    unsafe { geteuid() }
 }

@@ -85,7 +85,7 @@ fn one_client_too_many_is_told_so() {
     let mut next = server.over_tcp();
     next.synchronise();
     server.log.wait_for("open slot=7 tcp");
-    assert_eq!(server.log.count(" full "), 2);
+    server.log.wait_for_count(" full ", 2);
     let counters = server.stop();
     assert_eq!((counters.without_slot, counters.clients_ever), (2, 33));
 }

@@ -2,41 +2,21 @@
 
 mod common;
 
-use common::{start, Folder, PATIENCE};
+use common::{start, Folder, Program, PATIENCE};
+use infod3d::options::{self, escaped, ListenerOptions};
 use infod3d::{Log, Options, Server};
-use std::io::{BufRead, BufReader, Read, Write};
+use std::ffi::{OsStr, OsString};
+use std::io::{Read, Write};
+use std::os::unix::ffi::OsStrExt;
 use std::os::unix::fs::PermissionsExt;
 use std::os::unix::net::{UnixListener, UnixStream};
 use std::path::Path;
-use std::process::{Child, Command, Output, Stdio};
-use std::time::{Duration, Instant};
+use std::process::Command;
 
-/// Waits for a process, at most half a minute.
-fn finish(mut child: Child) -> Output {
-    let until = Instant::now() + PATIENCE;
-    while child.try_wait().expect("a process").is_none() {
-        if Instant::now() > until {
-            let _ = child.kill();
-            panic!("the process does not end");
-        }
-        std::thread::sleep(Duration::from_millis(5));
-    }
-    child.wait_with_output().expect("its output")
-}
-
-fn infod3d(arguments: &[&str]) -> Child {
-    Command::new(env!("CARGO_BIN_EXE_infod3d"))
-        .args(arguments)
-        .stdout(Stdio::piped())
-        .stderr(Stdio::piped())
-        .spawn()
-        .expect("infod3d runs")
-}
-
-fn signal(child: &Child, name: &str) {
-    let pid = child.id().to_string();
-    let sent = Command::new("kill").args([name, &pid]).status();
-    assert!(sent.expect("kill runs").success());
+fn infod3d(arguments: &[&str]) -> Program {
+    Program::start(|command| {
+        command.args(arguments);
+    })
 }
 
 #[test]
@@ -67,64 +47,148 @@ fn wrong_options_end_with_status_2() {
             "infod3d: --queue wants a number, not -1\n",
         ),
         (
+            vec![
+                "--slots=2",
+                "--unix=a,reserve=2",
+                "--reserve-tcp=1",
+                "--tcp=127.0.0.1:0",
+            ],
+            "infod3d: the listeners reserve 3 slots and there are 2\n",
+        ),
+        (
             vec!["--tcp", "0.0.0.0:0"],
             "infod3d: 0.0.0.0:0 is not loopback; --allow-remote allows it\n",
         ),
     ];
     for (arguments, error) in table {
-        let output = finish(infod3d(&arguments));
-        assert_eq!(String::from_utf8_lossy(&output.stderr), error);
-        assert_eq!(output.status.code(), Some(2));
+        let (status, _, log) = infod3d(&arguments).finish();
+        assert_eq!((status, log.as_str()), (Some(2), error));
     }
-    let output = finish(infod3d(&["--help"]));
-    assert_eq!(output.status.code(), Some(0));
-    assert!(output.stdout.starts_with(b"infod3d: "));
+}
+
+#[test]
+fn help_and_version_are_said() {
+    for name in ["--help", "-h"] {
+        let (status, output, _) = infod3d(&[name]).finish();
+        assert_eq!((status, output), (Some(0), options::PAGE.help()));
+    }
+    let version = concat!(
+        "infod3d ",
+        env!("CARGO_PKG_VERSION"),
+        ", infod3 protocol version 0\n"
+    );
+    for name in ["--version", "-V"] {
+        let (status, output, _) = infod3d(&[name]).finish();
+        assert_eq!((status, output.as_str()), (Some(0), version));
+    }
+    // Output that is lost is a failure and not a panic.
+    let mut command = Command::new("sh");
+    command.args(["-c", "exec \"$0\" --help >/dev/full"]);
+    command.arg(env!("CARGO_BIN_EXE_infod3d"));
+    let (status, _, log) = Program::spawn(command).finish();
+    assert_eq!(status, Some(1));
+    assert!(log.starts_with("infod3d: standard output: "), "{log}");
+}
+
+/// Whether SIGHUP is ignored here, and so in every process that is started from here.
+fn hang_up_is_ignored() -> bool {
+    let status = std::fs::read_to_string("/proc/self/status").expect("the process table");
+    let line = status.lines().find_map(|line| line.strip_prefix("SigIgn:"));
+    let mask = u64::from_str_radix(line.expect("a mask").trim(), 16);
+    mask.expect("a number") & 1 == 1
 }
 
 #[test]
 fn signals_write_the_counters_and_stop() {
-    for name in ["-INT", "-TERM"] {
+    let names = ["-INT", "-TERM", "-HUP"];
+    for name in &names[..names.len() - usize::from(hang_up_is_ignored())] {
         let folder = Folder::new();
         let path = folder.0.join("socket");
         let text = path.to_str().expect("UTF-8");
-        let mut child = infod3d(&["--unix", text, "--slots", "2", "--stats", "1"]);
-        let mut lines = BufReader::new(child.stderr.take().expect("its log")).lines();
-        let mut wait_for = |text: &str| {
-            let found = lines
-                .by_ref()
-                .map(|line| line.expect("a line"))
-                .find(|l| l.contains(text));
-            found.expect("the log ends too early")
-        };
-        wait_for("listen unix");
+        let mut program = infod3d(&["--unix", text, "--slots", "2", "--stats", "1"]);
+        program.wait_for("listen unix");
         let mut client = UnixStream::connect(&path).expect("connected");
         client.set_read_timeout(Some(PATIENCE)).expect("a timeout");
         client.write_all(b"PING\n").expect("sent");
         let mut answer = [0; 9];
         client.read_exact(&mut answer).expect("an answer");
         assert_eq!(&answer, b"PONG \"\"\r\n");
-        signal(&child, "-USR1");
-        assert!(wait_for("counters ").contains("clients=1 keys=0 clients_ever=1"));
-        wait_for("counters ");
-        signal(&child, name);
-        wait_for("stop signal=");
-        wait_for("close slot=0");
+        program.signal("-USR1");
+        let line = program.wait_for("counters ");
+        assert!(line.contains("clients=1 keys=0 clients_ever=1"));
+        program.wait_for("counters ");
+        program.signal(name);
+        program.wait_for("stop signal=");
+        program.wait_for("close slot=0");
         let mut rest = Vec::new();
         client.read_to_end(&mut rest).expect("the end");
         assert_eq!(rest, b"");
-        let output = finish(child);
-        assert_eq!(output.status.code(), Some(0));
+        assert_eq!(program.finish().0, Some(0));
         assert!(!path.exists(), "the socket's file is removed");
+    }
+}
+
+#[test]
+fn a_hang_up_that_is_ignored_stays_so() {
+    let folder = Folder::new();
+    let mut command = Command::new("sh");
+    command.args(["-c", "trap '' HUP; exec \"$0\" --unix \"$1\""]);
+    command.arg(env!("CARGO_BIN_EXE_infod3d"));
+    command.arg(folder.0.join("socket"));
+    let mut program = Program::spawn(command);
+    program.wait_for("listen unix");
+    program.signal("-HUP");
+    program.signal("-USR1");
+    program.wait_for("counters ");
+    program.signal("-TERM");
+    assert!(program.wait_for("stop signal=").ends_with("=15"));
+    assert_eq!(program.finish().0, Some(0));
+}
+
+#[test]
+fn a_path_may_hold_any_bytes() {
+    let folder = Folder::new();
+    for (index, name) in [&b"\xFF\xFEx"[..], b"a,b", b"c=d"].into_iter().enumerate() {
+        let path = folder.0.join(OsStr::from_bytes(name));
+        let mut attached = OsString::from("--unix=");
+        attached.push(escaped(&path));
+        let mut program = Program::start(|command| {
+            match index % 2 {
+                0 => command.arg(attached),
+                _ => command.arg("--unix").arg(escaped(&path)),
+            };
+        });
+        program.wait_for("listen unix");
+        UnixStream::connect(&path).expect("connected");
+        program.signal("-TERM");
+        assert_eq!(program.finish().0, Some(0));
     }
 }
 
 fn server_at(path: &Path) -> Result<Server, String> {
     let options = Options {
-        unix: vec![path.to_owned()],
+        listeners: vec![ListenerOptions::unix(path)],
         ..Options::default()
     };
     let log = Log::new(Box::new(std::io::sink()), true);
     Server::new(&options, log).map_err(|error| error.to_string())
+}
+
+#[test]
+fn a_folder_of_somebody_else_is_not_used() {
+    let folder = Folder::new();
+    let link = folder.0.join("link");
+    std::os::unix::fs::symlink(&folder.0, &link).expect("a link");
+    let options = Options {
+        listeners: vec![ListenerOptions::unix(link.join("socket"))],
+        private_folder: Some(link.clone()),
+        ..Options::default()
+    };
+    let log = Log::new(Box::new(std::io::sink()), true);
+    let error = Server::new(&options, log).err().expect("an error");
+    let link = link.display();
+    let expected = format!("cannot listen on a socket in {link}: {link} is a link");
+    assert_eq!(error.to_string(), expected);
 }
 
 #[test]
@@ -157,7 +221,10 @@ fn a_stale_file_is_replaced_and_a_live_one_is_not() {
 #[test]
 fn the_files_get_their_mode() {
     for mode in [0o600, 0o660, 0o606, 0o777] {
-        let server = start(|options| options.rights.mode = mode);
+        let server = start(|options| {
+            let listeners = options.listeners.iter_mut();
+            listeners.for_each(|listener| listener.rights.mode = mode);
+        });
         for path in [&server.unix, &server.packets] {
             let found = std::fs::metadata(path)
                 .expect("the file")

@@ -4,8 +4,8 @@
 mod common;
 
 use common::{frame, sized, start, Client, Running};
-use infod3d::help::PAGE;
-use infod3d::options::Access;
+use infod3d::help::{PAGE, READ_ONLY};
+use infod3d::options::{Access, Limits};
 use std::time::Duration;
 
 /// Reads the HELP page line by line.
@@ -69,8 +69,8 @@ fn help_waits_for_a_long_queue() {
 
 fn read_only() -> Running {
     start(|options| {
-        options.tcp_access = Access::ReadOnly;
-        options.packets_access = Access::ReadOnly;
+        options.listeners[0].access = Access::ReadOnly;
+        options.listeners[2].access = Access::ReadOnly;
     })
 }
 
@@ -91,19 +91,21 @@ fn a_read_only_listener_refuses_every_write() {
     for stream in &streams {
         let mut client = server.over_tcp();
         client.send(stream);
-        assert_eq!(client.rest(), b"", "closed without a word");
+        assert_eq!(client.rest(), READ_ONLY.as_bytes());
     }
     let packets = server.over_packets();
     packets.send(b"\x04k\0x");
+    assert_eq!(packets.packet(), READ_ONLY.as_bytes());
     assert_eq!(packets.packet(), b"");
-    assert_eq!(server.log.count("WRITE refused"), 7);
+    server.log.wait_for_count("WRITE refused", 7);
 
     // What it asked before is answered, and the listener is good for reading.
     let mut client = server.over_tcp();
     client.send("SUB k\nREAD k\nPING WRITE\nWRITE k x\n");
     let answer = String::from_utf8(client.rest()).expect("UTF-8");
     let info = "INFO \"k\" \"v\"\r\n";
-    assert_eq!(answer, format!("{info}{info}PONG \"WRITE\"\r\n"));
+    let answers = format!("{info}{info}PONG \"WRITE\"\r\n{READ_ONLY}");
+    assert_eq!(answer, answers);
     let mut reader = server.over_tcp();
     reader.send("SUB *\n");
     assert_eq!(reader.line(), "INFO \"k\" \"v\"");
@@ -236,4 +238,94 @@ fn a_quiet_log_has_no_clients() {
     let log = server.log.clone();
     assert_eq!(server.stop().clients_ever, 1);
     assert!(!log.text().contains(" slot=") && log.text().contains("counters "));
+}
+
+#[test]
+fn a_client_that_says_nothing_is_turned_away() {
+    let server = start(|options| options.first_message = Some(Duration::from_secs(1)));
+    let mut talking = server.over_tcp();
+    talking.synchronise();
+    let mut silent = [server.over_tcp(), server.over_unix(), server.over_unix()];
+    silent[2].send("PIN");
+    let packets = server.over_packets();
+    for client in &mut silent {
+        assert_eq!(client.line(), "# no message within 1 seconds");
+        assert_eq!(client.rest(), b"");
+    }
+    assert_eq!(packets.packet(), b"# no message within 1 seconds\r\n");
+    assert_eq!(packets.packet(), b"");
+    server.log.wait_for_count("no message in time", 4);
+    talking.synchronise();
+    assert_eq!(server.stop().silent, 4);
+}
+
+#[test]
+fn a_listener_takes_no_more_than_it_says() {
+    let server = start(|options| {
+        options.listeners[0].limits = Limits {
+            key: 10,
+            message: 100,
+            pattern: 12,
+            transaction: 2,
+        };
+    });
+    let key = "k".repeat(11);
+    let long = "x".repeat(95);
+    let limits = [
+        ("key", "10 bytes"),
+        ("message", "100 bytes"),
+        ("pattern", "12 bytes"),
+        ("transaction", "2 commands"),
+    ];
+    // The last two are refused before they are whole.
+    let streams: [(Vec<u8>, usize); 12] = [
+        (format!("WRITE {key} v\n").into(), 0),
+        (format!("READ \"{}\"\n", "\\153".repeat(11)).into(), 0),
+        (frame(4, format!("{key}\0v").as_bytes()), 0),
+        (format!("w k {long}xx\n").into(), 1),
+        (frame(4, format!("k\0{long}xxxx").as_bytes()), 1),
+        (format!("SUB {key}**\n").into(), 2),
+        (frame(1, format!("{key}?*").as_bytes()), 2),
+        (b"BEGIN\nPING\n\nPING\nPING\n".to_vec(), 3),
+        ([frame(5, b""), frame(7, b"").repeat(3)].concat(), 3),
+        (b"BEGIN\nPING\nREAD k\nw k v\nCOMMIT\n".to_vec(), 3),
+        (format!("w k {long}xx").into(), 1),
+        (b"\x04\xFF\xFFk\0".to_vec(), 1),
+    ];
+    for (stream, limit) in streams {
+        let mut client = server.over_tcp();
+        client.send(&stream);
+        let (what, most) = limits[limit];
+        let told = format!("# too long: this listener takes a {what} of at most {most}");
+        assert_eq!(client.line(), told, "{stream:?}");
+        assert_eq!(client.rest(), b"");
+    }
+    server.log.wait_for_count("too-long slot=", 12);
+    // What just fits is taken, and other listeners have limits of their own.
+    let mut client = server.over_tcp();
+    let fits = &key[1..];
+    client.send(format!(
+        "w k {long}x\ns ({fits})\nBEGIN\nw {fits} v\nr \"{}\"\nc\n",
+        "\\153".repeat(10)
+    ));
+    for _ in 0..2 {
+        assert_eq!(client.line(), format!("INFO \"{fits}\" \"v\""));
+    }
+    let mut other = server.over_unix();
+    other.send(format!("w {key}{long} {long}\nr {key}{long}\n"));
+    assert_eq!(other.line(), format!("INFO \"{key}{long}\" \"{long}\""));
+    assert_eq!(server.stop().too_long, 12);
+}
+
+#[test]
+fn the_text_of_hello_is_in_the_log() {
+    let server = start(|_| {});
+    let mut client = server.over_unix();
+    client.send("HELLO 0 \"port 7\\012forged \"\n");
+    assert_eq!(client.line(), "VERSION 0 \"\"");
+    server.log.wait_for("hello slot=0 \"port 7\\012forged \"\n");
+    let mut client = server.over_tcp();
+    client.send(frame(0, [&b"\0"[..], &[b'x'; 1000]].concat().as_slice()));
+    let expected = format!("hello slot=1 \"{}\" ..\n", "x".repeat(64));
+    server.log.wait_for(&expected);
 }

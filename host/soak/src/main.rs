@@ -1,357 +1,175 @@
-//! A storm night against a running server: `soak SECONDS`.
+//! Nights against a server process: `soak SECONDS` plays a storm, `soak --hostile SECONDS` plays
+//! clients that do their worst.
 //!
-//! Two feeds write 200 reports a second for 24 sites, every fourth of them a transaction of two
-//! keys. Of 24 subscribers twenty watch a site each, six of them over connections that come and
-//! go, and four analysts watch everything. Three slow readers subscribe to everything, do not read
-//! until they are shut, and come again; one client connects, asks and leaves, again and again. That
-//! makes thirty of the server's 32 slots; a client that finds none free, since a slow reader is
-//! still on its way out, tries again.
-//!
-//! It prints the latency from the moment a report is due until it is at its subscriber, and four
-//! counts that must be 0; the status is 1 if one is not.
+//! - [`storm`] is the storm night and [`hostile`] the hostile one, in phases.
+//! - [`night`] has the feeds and subscribers of both, [`check`] what they hold against each other.
+//! - [`attack`] has the hostile clients, [`ping`] the one whose latency is the figure.
+//! - [`server`] starts a server whose log may stall; [`figures`] and [`table`] make the output.
 
+mod attack;
 mod check;
+mod figures;
+mod hostile;
+mod night;
+mod ping;
+mod server;
+mod storm;
+mod table;
 
-use check::{value, Faults, Record};
-use infod3_cli::{Address, Command, Connection, Message, Trouble};
-use infod3d::process::{cpu_seconds, Process};
+use std::error::Error;
 use std::process::ExitCode;
-use std::sync::atomic::{AtomicBool, AtomicU64, Ordering};
-use std::thread::{self, JoinHandle};
-use std::time::{Duration, Instant};
 
-const SITES: usize = 24;
-const SUBSCRIBERS: usize = 24;
-/// Subscribers from this number on are analysts, who watch everything.
-const ANALYSTS: usize = 20;
-const FEEDS: usize = 2;
-const REPORTS_PER_SECOND: u32 = 200;
-/// Subscribers with a number below this one reconnect now and then.
-const RECONNECTING: usize = 6;
-const SLOW_READERS: usize = 3;
-/// How long anything may take, on a machine that is busy with other things.
-const PATIENCE: Duration = Duration::from_secs(60);
+const USAGE: &str =
+    "usage: soak SECONDS | soak --hostile SECONDS [--phase NUMBER] [--slack FACTOR]";
 
-/// What all threads share.
-struct Night {
-    begin: Instant,
-    end: Instant,
-    tcp: Address,
-    unix: Address,
-    /// The feeds have written all they will, and the server has done it.
-    written: AtomicBool,
-    reconnects: AtomicU64,
-    shut: AtomicU64,
-    visits: AtomicU64,
-    retries: AtomicU64,
+fn help() -> String {
+    let (least, phases) = (hostile::least(None), hostile::list());
+    format!(
+        "\
+{USAGE}
+  SECONDS            1 to 86400: a storm night so long
+  --hostile SECONDS  {least} to 86400: hostile clients in phases, so long together
+  --phase NUMBER     one phase alone, for 2 seconds or more
+  --slack FACTOR     multiplies the bounds of --hostile, 0.001 to 1000; 1 if not given
+Exit status: 0 nothing was wrong, 1 something was, 2 wrong usage.
+
+phases:
+{phases}"
+    )
 }
 
-impl Night {
-    /// Clients take turns with the two sorts of sockets. One that gets no slot tries again, and
-    /// the answer to a PING shows that it has one.
-    fn connect(&self, who: usize) -> Result<Connection, Trouble> {
-        let address = match who % 2 {
-            0 => &self.tcp,
-            _ => &self.unix,
-        };
-        let until = Instant::now() + PATIENCE;
-        loop {
-            let tried = Connection::open(address, PATIENCE).and_then(|mut connection| {
-                connection.synchronise(PATIENCE)?;
-                Ok(connection)
-            });
-            match tried {
-                Err(Trouble::Connect(_)) if Instant::now() < until => {
-                    self.retries.fetch_add(1, Ordering::Relaxed);
-                    thread::sleep(Duration::from_millis(20));
-                }
-                tried => return tried,
-            }
+/// What is to be played.
+#[derive(Debug, PartialEq)]
+enum Request {
+    Help,
+    Storm(u64),
+    Hostile(u64, Bounds),
+}
+
+/// What `--hostile` goes with.
+#[derive(Clone, Copy, Debug, PartialEq)]
+struct Bounds {
+    /// The only phase, counted from 1.
+    phase: Option<usize>,
+    slack: f64,
+}
+
+/// Reads the arguments, without the program's name. The error is one line.
+fn parse(arguments: impl Iterator<Item = String>) -> Result<Request, String> {
+    let (mut hostile, mut phase, mut slack, mut seconds) = (false, None, None, None);
+    let mut words = arguments.flat_map(|word| match word.split_once('=') {
+        Some((name, value)) if name.starts_with("--") => vec![name.to_owned(), value.to_owned()],
+        _ => vec![word],
+    });
+    while let Some(word) = words.next() {
+        match word.as_str() {
+            "-h" | "--help" => return Ok(Request::Help),
+            "--hostile" => hostile = true,
+            "--phase" => phase = Some(number(words.next(), "--phase", 1, hostile::count())?),
+            "--slack" => slack = Some(factor(words.next())?),
+            _ if seconds.is_none() => seconds = Some(word),
+            _ => return Err(format!("{word} is one word too many")),
         }
     }
-
-    fn is_on(&self) -> bool {
-        Instant::now() < self.end
+    if !hostile && (phase.is_some() || slack.is_some()) {
+        return Err("--phase and --slack go with --hostile".to_owned());
     }
-}
-
-/// The last numbers that a feed wrote, by key.
-type Written = Vec<(Vec<u8>, u64)>;
-
-/// Writes the reports of its sites when they are due.
-fn feed(night: &Night, who: usize) -> Result<(Written, u64), Trouble> {
-    let mut connection = night.connect(who)?;
-    let period = Duration::from_secs(1) * FEEDS as u32 / REPORTS_PER_SECOND;
-    let mut numbers = vec![(0u64, 0u64); SITES];
-    let mut reports = 0u64;
-    let mut due = period;
-    while night.begin + due < night.end {
-        thread::sleep((night.begin + due).saturating_duration_since(Instant::now()));
-        let site = (reports as usize * FEEDS + who) % SITES;
-        let (km, state) = &mut numbers[site];
-        let (km_key, state_key) = keys(site);
-        *km += 1;
-        if (reports + reports / 12) % 4 == 3 {
-            *state += 1;
-            connection.send_all(&[
-                Command::Begin,
-                Command::Write(&km_key, &value(*km, reports, due)),
-                Command::Write(&state_key, &value(*state, reports, due)),
-                Command::Commit,
-            ])?;
-        } else {
-            connection.send(Command::Write(&km_key, &value(*km, 0, due)))?;
-        }
-        reports += 1;
-        due += period;
-    }
-    connection.synchronise(PATIENCE)?;
-    let mut written = Vec::new();
-    for (site, (km, state)) in numbers.into_iter().enumerate() {
-        let (km_key, state_key) = keys(site);
-        written.extend(
-            [(km_key, km), (state_key, state)]
-                .into_iter()
-                .filter(|(_, n)| *n > 0),
-        );
-    }
-    Ok((written, reports))
-}
-
-fn keys(site: usize) -> (Vec<u8>, Vec<u8>) {
-    let key = |what| format!("site.{site:02}.{what}").into_bytes();
-    (key("km"), key("state"))
-}
-
-/// Watches a site, or everything, until all is written and seen.
-fn subscribe(night: &Night, who: usize) -> Record {
-    let mut record = Record::new(night.begin);
-    let stay = match who < RECONNECTING {
-        true => Duration::from_millis(700 + 300 * who as u64),
-        false => PATIENCE * 100_000,
-    };
-    loop {
-        let last = match watch(night, who, &mut record, stay) {
-            Ok(last) => last,
-            Err(trouble) => {
-                eprintln!("soak: subscriber {who}: {trouble}");
-                record.faults.lost += 1;
-                return record;
-            }
-        };
-        if last {
-            return record;
-        }
-        night.reconnects.fetch_add(1, Ordering::Relaxed);
-    }
-}
-
-/// One connection of a subscriber; true where it has seen the end of the night.
-fn watch(night: &Night, who: usize, record: &mut Record, stay: Duration) -> Result<bool, Trouble> {
-    let mut connection = night.connect(who)?;
-    let pattern = match who < ANALYSTS {
-        true => format!("site.{who:02}.*"),
-        false => "site.*".to_owned(),
-    };
-    record.subscribed();
-    connection.send(Command::Sub(pattern.as_bytes()))?;
-    let leave = Instant::now() + stay;
-    let mut asked = false;
-    loop {
-        if !asked && night.written.load(Ordering::Acquire) {
-            connection.send(Command::Ping(b"last"))?;
-            asked = true;
-        }
-        match connection.receive(Some(Duration::from_millis(100))) {
-            Ok(Message::Info(key, Some(value))) => record.info(&key, &value),
-            Ok(Message::Pong(_)) => return Ok(true),
-            Ok(_) => record.faults.lost += 1,
-            Err(Trouble::Late) => {}
-            Err(trouble) => return Err(trouble),
-        }
-        if !asked && Instant::now() > leave {
-            return Ok(false);
-        }
-    }
-}
-
-/// Subscribes to everything, sleeps until the server must have shut it, reads what it got up to
-/// its ERROR, and comes again.
-fn read_slowly(night: &Night, who: usize) -> Record {
-    let mut record = Record::new(night.begin);
-    while night.is_on() {
-        match dawdle(night, who, &mut record) {
-            Ok(()) => {}
-            Err(Trouble::Error(102, _)) => {
-                night.shut.fetch_add(1, Ordering::Relaxed);
-            }
-            Err(trouble) => {
-                eprintln!("soak: slow reader {who}: {trouble}");
-                record.faults.lost += 1;
-            }
-        }
-    }
-    record.latencies.clear();
-    record
-}
-
-fn dawdle(night: &Night, who: usize, record: &mut Record) -> Result<(), Trouble> {
-    // A Unix socket holds less than a TCP connection, so that the queue's turn comes sooner.
-    let mut connection = night.connect(2 * who + 1)?;
-    record.subscribed();
-    connection.send(Command::Sub(b"site.*"))?;
-    let wake = Instant::now() + Duration::from_millis(5_000 + 700 * who as u64);
-    while night.is_on() && Instant::now() < wake {
-        thread::sleep(Duration::from_millis(20));
-    }
-    loop {
-        match connection.receive(Some(Duration::from_millis(200))) {
-            Ok(Message::Info(key, Some(value))) => record.info(&key, &value),
-            Ok(_) => record.faults.lost += 1,
-            Err(Trouble::Late) if !night.is_on() => return Ok(()),
-            Err(Trouble::Late) => {}
-            Err(trouble) => return Err(trouble),
-        }
-    }
-}
-
-/// Connects, asks and leaves, again and again.
-fn visit(night: &Night) -> u64 {
-    let mut failed = 0;
-    let mut who = 0;
-    while night.is_on() {
-        who += 1;
-        match night.connect(who) {
-            Ok(_) => night.visits.fetch_add(1, Ordering::Relaxed),
-            Err(trouble) => {
-                eprintln!("soak: visitor: {trouble}");
-                failed += 1;
-                0
-            }
-        };
-        thread::sleep(Duration::from_millis(20));
-    }
-    failed
-}
-
-/// The value below which this part of the sorted numbers lies, in milliseconds.
-fn percentile(sorted: &[u32], part: f64) -> f64 {
-    let at = ((sorted.len() as f64 * part) as usize).min(sorted.len().saturating_sub(1));
-    sorted
-        .get(at)
-        .map_or(0.0, |&micros| f64::from(micros) / 1000.0)
-}
-
-fn spawn<T: Send + 'static>(
-    night: &std::sync::Arc<Night>,
-    work: impl FnOnce(&Night) -> T + Send + 'static,
-) -> JoinHandle<T> {
-    let night = night.clone();
-    thread::spawn(move || work(&night))
-}
-
-/// A thread that panicked has no result: that counts as a loss.
-fn joined(thread: JoinHandle<Record>, begin: Instant) -> Record {
-    thread.join().unwrap_or_else(|_| {
-        let mut record = Record::new(begin);
-        record.faults.lost += 1;
-        record
+    let least = if hostile { hostile::least(phase) } else { 1 };
+    let seconds = number(seconds, "SECONDS", least, 86_400)?;
+    let slack = slack.unwrap_or(1.0);
+    Ok(match hostile {
+        true => Request::Hostile(seconds, Bounds { phase, slack }),
+        false => Request::Storm(seconds),
     })
 }
 
-fn soak(seconds: u64) -> Result<bool, Box<dyn std::error::Error>> {
-    // A short queue, so that slow readers are shut within seconds.
-    let server = Process::start(&Process::beside()?, &["--quiet", "--queue", "32768"])?;
-    let begin = Instant::now();
-    let night = std::sync::Arc::new(Night {
-        begin,
-        end: begin + Duration::from_secs(seconds),
-        tcp: Address::Tcp(server.tcp.to_string()),
-        unix: Address::Unix(server.unix.clone()),
-        written: AtomicBool::new(false),
-        reconnects: AtomicU64::new(0),
-        shut: AtomicU64::new(0),
-        visits: AtomicU64::new(0),
-        retries: AtomicU64::new(0),
-    });
-    let watching: Vec<_> = (0..SUBSCRIBERS)
-        .map(|who| spawn(&night, move |night| subscribe(night, who)))
-        .collect();
-    let slow: Vec<_> = (0..SLOW_READERS)
-        .map(|who| spawn(&night, move |night| read_slowly(night, who)))
-        .collect();
-    let visitor = spawn(&night, visit);
-    let feeds: Vec<_> = (0..FEEDS)
-        .map(|who| spawn(&night, move |night| feed(night, who)))
-        .collect();
-
-    let mut written = Vec::new();
-    let mut reports = 0;
-    for feed in feeds {
-        let (keys, count) = feed.join().map_err(|_| "a feed failed")??;
-        written.extend(keys);
-        reports += count;
+/// A number in this range, both ends included.
+fn number<T: std::str::FromStr + PartialOrd + std::fmt::Display>(
+    word: Option<String>,
+    name: &str,
+    least: T,
+    most: T,
+) -> Result<T, String> {
+    let word = word.ok_or(format!("{name} is missing"))?;
+    match word.parse() {
+        Ok(n) if n >= least && n <= most => Ok(n),
+        _ => Err(format!("{name} is {least} to {most}, not {word}")),
     }
-    night.written.store(true, Ordering::Release);
-    let cpu = cpu_seconds(server.id()).unwrap_or(0.0);
+}
 
-    let mut faults = Faults::default();
-    let mut latencies = Vec::new();
-    let mut deliveries = 0;
-    for (who, thread) in watching.into_iter().enumerate() {
-        let mut record = joined(thread, begin);
-        let (km, state) = keys(who);
-        let watched = |key: &Vec<u8>| who >= ANALYSTS || *key == km || *key == state;
-        record.finish(written.iter().filter(|(key, _)| watched(key)).cloned());
-        faults.add(record.faults);
-        deliveries += record.deliveries;
-        latencies.append(&mut record.latencies);
-    }
-    let mut to_slow = 0;
-    for thread in slow {
-        let record = joined(thread, begin);
-        faults.add(record.faults);
-        to_slow += record.deliveries;
-    }
-    faults.lost += visitor.join().map_err(|_| "the visitor failed")?;
+fn factor(word: Option<String>) -> Result<f64, String> {
+    number(word, "--slack", 0.001, 1000.0)
+}
 
-    latencies.sort_unstable();
-    let count = |number: &AtomicU64| number.load(Ordering::Relaxed);
-    println!("seconds {seconds}  reports {reports}  deliveries {deliveries}");
-    println!(
-        "to slow readers {to_slow}  shut {}  reconnects {}  visits {}  without slot {}",
-        count(&night.shut),
-        count(&night.reconnects),
-        count(&night.visits),
-        count(&night.retries)
-    );
-    println!(
-        "latency in ms: p50 {:.2}  p90 {:.2}  p99 {:.2}  max {:.2}",
-        percentile(&latencies, 0.50),
-        percentile(&latencies, 0.90),
-        percentile(&latencies, 0.99),
-        percentile(&latencies, 1.0)
-    );
-    println!("server CPU {:.1} %", 100.0 * cpu / seconds as f64);
-    println!("lost {}", faults.lost);
-    println!("doubled {}", faults.doubled);
-    println!("out of order {}", faults.out_of_order);
-    println!("stale last value {}", faults.stale);
-    Ok(faults == Faults::default() && deliveries > 0)
+fn run(request: Request) -> Result<bool, Box<dyn Error>> {
+    match request {
+        Request::Help => {
+            print!("{}", help());
+            Ok(true)
+        }
+        Request::Storm(seconds) => storm::soak(seconds),
+        Request::Hostile(seconds, Bounds { phase, slack }) => hostile::night(seconds, phase, slack),
+    }
 }
 
 fn main() -> ExitCode {
-    let seconds = std::env::args().nth(1).and_then(|text| text.parse().ok());
-    let Some(seconds @ 1..=86_400) = seconds else {
-        eprintln!("usage: soak SECONDS, 1 to 86400");
-        return ExitCode::from(2);
-    };
-    match soak(seconds) {
-        Ok(true) => ExitCode::SUCCESS,
-        Ok(false) => ExitCode::from(1),
-        Err(error) => {
+    let arguments = std::env::args_os().skip(1);
+    let request = parse(arguments.map(|word| word.to_string_lossy().into_owned()));
+    match request.map(run) {
+        Ok(Ok(true)) => ExitCode::SUCCESS,
+        Ok(Ok(false)) => ExitCode::from(1),
+        Ok(Err(error)) => {
             eprintln!("soak: {error}");
             ExitCode::from(1)
+        }
+        Err(error) => {
+            eprintln!("soak: {error}\n{USAGE}");
+            ExitCode::from(2)
+        }
+    }
+}
+
+#[cfg(test)]
+mod tests {
+    use super::*;
+
+    fn read(line: &str) -> Result<Request, String> {
+        parse(line.split_whitespace().map(str::to_owned))
+    }
+
+    #[test]
+    fn arguments_are_read() {
+        let hostile = |seconds, phase, slack| {
+            let bounds = Bounds { phase, slack };
+            Ok(Request::Hostile(seconds, bounds))
+        };
+        assert_eq!(read("20"), Ok(Request::Storm(20)));
+        assert_eq!(read("--hostile 45"), hostile(45, None, 1.0));
+        assert_eq!(read("60 --slack=2.5 --hostile"), hostile(60, None, 2.5));
+        assert_eq!(read("--hostile=2 --phase 9"), hostile(2, Some(9), 1.0));
+        assert_eq!(read("5 -h"), Ok(Request::Help));
+    }
+
+    #[test]
+    fn wrong_arguments_are_said_in_one_line() {
+        let table = [
+            ("", "SECONDS is missing"),
+            ("0", "SECONDS is 1 to 86400, not 0"),
+            ("--hostile 44", "SECONDS is 45 to 86400, not 44"),
+            ("--hostile 1 --phase 9", "SECONDS is 2 to 86400, not 1"),
+            ("--fast", "SECONDS is 1 to 86400, not --fast"),
+            ("5 6", "6 is one word too many"),
+            ("5 --slack 2", "--phase and --slack go with --hostile"),
+            ("--hostile 60 --slack", "--slack is missing"),
+            ("--hostile 60 --slack 0", "--slack is 0.001 to 1000, not 0"),
+            (
+                "--hostile 60 --slack nan",
+                "--slack is 0.001 to 1000, not nan",
+            ),
+            ("--hostile 60 --phase 10", "--phase is 1 to 9, not 10"),
+        ];
+        for (line, error) in table {
+            assert_eq!(read(line), Err(error.to_owned()));
         }
     }
 }

@@ -15,6 +15,8 @@ const REST: Duration = Duration::from_millis(200);
 /// How long a closed client's last bytes are read and dropped, so that what was written to it is
 /// not lost by a reset.
 const PARTING: Duration = Duration::from_secs(2);
+/// Bytes of such a client that are read in one turn.
+const DROPPED: usize = 16_384;
 /// The most sockets in that state; the oldest go first.
 const PARTINGS: usize = 64;
 
@@ -26,7 +28,7 @@ impl Server {
                 Ok(Some((socket, peer))) => self.welcome(socket, peer, index, now)?,
                 Ok(None) => break,
                 Err(error) => {
-                    let place = &self.listeners[index].place;
+                    let place = &self.listeners[index].options.place;
                     self.log.notice(format_args!("accept {place}: {error}"));
                     self.listeners[index].paused = Some(now + REST);
                     break;
@@ -36,20 +38,16 @@ impl Server {
         Ok(())
     }
 
+    /// Gives a client of this listener a slot, or turns it away.
     pub(super) fn welcome(
         &mut self,
-        mut socket: Socket,
+        socket: Socket,
         peer: String,
         index: usize,
         now: Instant,
     ) -> Result<(), Failure> {
-        let Some(slot) = self.clients.iter().position(Option::is_none) else {
-            self.counters.without_slot += 1;
-            self.log.client(format_args!("full {peer}"));
-            // The line fits into the empty buffer of a new socket; a peer that is gone needs none.
-            let line = help::no_slot(self.clients.len());
-            self.counters.bytes_out += socket.write(line.as_bytes()).unwrap_or(0) as u64;
-            self.part(socket, now);
+        let Some(slot) = self.free_slot(index) else {
+            self.turn_away(socket, &peer, now);
             return Ok(());
         };
         let form = match socket.is_packets() {
@@ -59,9 +57,49 @@ impl Server {
         self.broker.open(slot, form)?;
         self.counters.clients_ever += 1;
         self.log.client(format_args!("open slot={slot} {peer}"));
-        let access = self.listeners[index].access;
-        self.clients[slot] = Some(Client::new(socket, peer, access, now));
+        let listener = &self.listeners[index].options;
+        self.clients[slot] = Some(Client::new(socket, peer, listener, now));
+        self.origins[slot] = index;
+        let others: Vec<usize> = (0..self.clients.len())
+            .filter(|&other| other != slot && self.clients[other].is_some())
+            .collect();
+        self.costs.come(slot, &others, now);
         Ok(())
+    }
+
+    /// A free slot for a client of this listener, unless all that are free are reserved for
+    /// clients of other listeners.
+    fn free_slot(&self, index: usize) -> Option<usize> {
+        let free = self.clients.iter().filter(|client| client.is_none());
+        let others = (0..self.listeners.len()).filter(|&other| other != index);
+        let reserved: usize = others.map(|other| self.unused_reserve(other)).sum();
+        match free.count() > reserved {
+            true => self.clients.iter().position(Option::is_none),
+            false => None,
+        }
+    }
+
+    /// The slots that are reserved for a listener and not in use by its clients.
+    fn unused_reserve(&self, index: usize) -> usize {
+        let clients = self.clients.iter().zip(&self.origins);
+        let own = clients.filter(|(client, &origin)| client.is_some() && origin == index);
+        let reserve = self.listeners[index].options.reserve;
+        reserve.saturating_sub(own.count())
+    }
+
+    /// Says to a client that there is no slot for it.
+    fn turn_away(&mut self, mut socket: Socket, peer: &str, now: Instant) {
+        self.counters.without_slot += 1;
+        let clients = self.clients.iter().flatten().count();
+        let note = match self.clients.len() - clients {
+            0 => String::new(),
+            free => format!(" reserved={free}"),
+        };
+        self.log.client(format_args!("full {peer}{note}"));
+        // The line fits into the empty buffer of a new socket; a peer that is gone needs none.
+        let line = help::no_slot(clients);
+        self.counters.bytes_out += socket.write(line.as_bytes()).unwrap_or(0) as u64;
+        self.part(socket, now);
     }
 
     /// Ends the output of a socket and keeps it for a while, so that a reset for input that was
@@ -79,7 +117,7 @@ impl Server {
         let Some((socket, until)) = self.partings.get_mut(index) else {
             return;
         };
-        match socket.read(&mut self.read_room) {
+        match socket.read(&mut self.read_room[..DROPPED]) {
             Ok(Found::Bytes(_) | Found::Nothing) => {}
             Ok(Found::End) | Err(_) => *until = now,
         }
@@ -88,11 +126,17 @@ impl Server {
     /// Closes the clients that are done. One that is waited for and takes no byte is waited for
     /// no longer: what it sent is still fed, what is left for it is dropped.
     pub(super) fn close_done(&mut self, now: Instant) -> Result<(), Failure> {
+        let patience = self.patience();
         for slot in 0..self.clients.len() {
+            self.look(slot, now);
+            self.turn_away_silent(slot, now);
             let Some(client) = &mut self.clients[slot] else {
                 continue;
             };
-            if client.is_waiting() && client.progress + self.patience <= now && !client.is_done() {
+            if client.is_to_be_retried(now) {
+                self.counters.bytes_out += client.write(now) as u64;
+            }
+            if client.is_overdue(patience, now) {
                 client.lose(Some(&io::ErrorKind::TimedOut.into()));
             }
             if client.is_done() {
@@ -102,38 +146,47 @@ impl Server {
         Ok(())
     }
 
+    /// Turns a client away that has sent no whole message in time.
+    fn turn_away_silent(&mut self, slot: usize, now: Instant) {
+        let (Some(limit), Some(client)) = (self.first_message, &mut self.clients[slot]) else {
+            return;
+        };
+        let has_spoken = client.has_spoken || client.has_message();
+        if !has_spoken && !client.is_waiting() && client.came + limit <= now {
+            self.counters.silent += 1;
+            let seconds = limit.as_secs();
+            self.log.client(format_args!(
+                "silent slot={slot} no message within {seconds} s"
+            ));
+            client.turn_away(&help::silent(seconds), Reason::Silent, now);
+        }
+    }
+
     pub(super) fn close(&mut self, slot: usize, now: Instant) -> Result<(), Failure> {
         if let Some(client) = self.clients[slot].take() {
+            let view = self.view.filter(|_| !client.drained);
+            let queued = view.and_then(|view| view.queued(self.broker.memory(), slot));
             self.broker.close(slot)?;
             let lost = client.lost.map(Reason::Lost);
-            let reason = client.leaving.or(lost).unwrap_or(Reason::Ended);
-            let unfinished = client.input.len();
-            let note = match unfinished {
-                0 => String::new(),
-                n => format!(", {n} bytes not fed"),
+            let quietly = match self.stopping {
+                Some(_) => Reason::Stop,
+                None => Reason::Ended,
             };
+            let reason = client.leaving.or(lost).unwrap_or(quietly);
+            let mut note = String::new();
+            let untaken = client.dropped + queued.unwrap_or(0);
+            for (bytes, what) in [(client.input.len(), "fed"), (untaken, "taken")] {
+                if bytes > 0 {
+                    note.push_str(&format!(", {bytes} bytes not {what}"));
+                }
+            }
             let peer = &client.peer;
             self.log
                 .client(format_args!("close slot={slot} {peer}: {reason}{note}"));
-            if !client.gone && !client.ended {
+            if !client.gone && !client.peer_ended {
                 self.part(client.socket, now);
             }
         }
         Ok(())
-    }
-
-    /// Gives every client what its socket takes at once, and closes all.
-    pub(super) fn stop(&mut self) {
-        let now = Instant::now();
-        for slot in 0..self.clients.len() {
-            // The server ends in any case, so a failure of the library changes nothing here.
-            let _ = self.collect(slot, now);
-            if let Some(client) = &mut self.clients[slot] {
-                self.counters.bytes_out += client.write(now) as u64;
-                client.leave(Reason::Stop, now);
-            }
-            let _ = self.close(slot, now);
-        }
-        self.write_counters();
     }
 }

@@ -1,56 +1,81 @@
-//! From a client's bytes to the library, and from the library's queues to the sockets.
+//! From a client's bytes to the library.
 
 use super::{Failure, Server};
 use crate::client::Reason;
-use crate::cut::{command, is_error, Command, Kind};
+use crate::command::{first_length, hello_text, Command};
 use crate::help;
 use crate::options::Access;
+use crate::shown;
 use infod3::{Error, Feed};
 use std::time::Instant;
 
-/// Messages of one client that are fed in one turn.
-const FEEDS_PER_TURN: usize = 16;
-
 impl Server {
-    /// Feeds each client a few messages, another one first in each turn.
-    pub(super) fn feed_all(&mut self, now: Instant) -> Result<(), Failure> {
-        let slots = self.clients.len();
-        for turn in 0..slots {
-            let slot = (self.first + turn) % slots;
-            for _ in 0..FEEDS_PER_TURN {
-                if !self.feed(slot, now)? {
-                    break;
-                }
-            }
-        }
-        self.first = (self.first + 1) % slots;
-        Ok(())
-    }
-
-    /// Feeds a client's first message if it is whole; false where nothing can be fed now.
-    pub(super) fn feed(&mut self, slot: usize, now: Instant) -> Result<bool, Failure> {
+    /// Feeds a client's first message, which is whole or too long.
+    pub(super) fn feed(&mut self, slot: usize, now: Instant) -> Result<(), Failure> {
         let Some(client) = &mut self.clients[slot] else {
-            return Ok(false);
+            return Ok(());
         };
-        if client.leaving.is_some() || client.is_blocked() {
-            return Ok(false);
+        if client.is_too_long() {
+            let limit = client.limits.message;
+            self.refuse_long(slot, "message", limit, now);
+            return Ok(());
         }
         let Some(len) = client.input.whole(client.kind) else {
-            return Ok(false);
+            return Ok(());
         };
-        let message = client.input.front(len);
-        match (command(client.kind, message), client.access) {
-            (Command::Help, _) => return self.help(slot, len, now),
-            (Command::Write, Access::ReadOnly) => {
-                self.refuse_write(slot, now)?;
-                return Ok(false);
-            }
-            _ => {}
+        if client.passes_over(len, self.changes) {
+            self.counters.skipped += u64::from(client.gone);
+            return Ok(());
         }
-        let fed = self.broker.feed(slot, message);
-        client.input.remove(len);
+        client.has_spoken = true;
+        let command = Command::of(client.kind, client.input.front(len));
+        if command == Command::Help {
+            return self.help(slot, len);
+        }
+        if let Some((what, limit)) = self.excess(slot, command, len) {
+            self.refuse_long(slot, what, limit, now);
+            return Ok(());
+        }
+        match (
+            command,
+            self.clients[slot].as_ref().map(|client| client.access),
+        ) {
+            (Command::Write, Some(Access::ReadOnly)) => {
+                self.refuse_write(slot, now);
+                Ok(())
+            }
+            _ => self.feed_message(slot, command, len, now),
+        }
+    }
+
+    /// Feeds the library a client's first message, if there is room for what it owes others.
+    fn feed_message(
+        &mut self,
+        slot: usize,
+        command: Command,
+        len: usize,
+        now: Instant,
+    ) -> Result<(), Failure> {
+        let owed = self.clients[slot]
+            .as_mut()
+            .map_or(0, |client| client.may_owe(command, len));
+        if owed > 0 && !self.makes_room(slot, owed, now)? {
+            return Ok(());
+        }
+        let Some(client) = &mut self.clients[slot] else {
+            return Ok(());
+        };
+        let fed = self.broker.feed(slot, client.input.front(len));
         match fed {
-            Ok(Feed::Done(n)) if n == len => self.counters.messages_in += 1,
+            Ok(Feed::Done(n)) if n == len => {
+                self.counters.messages_in += 1;
+                let changed = client.note_accepted(command, len, self.changes);
+                self.changes += u64::from(changed);
+                if command == Command::Hello {
+                    let text = shown::quoted(&hello_text(client.kind, client.input.front(len)));
+                    self.log.client(format_args!("hello slot={slot} {text}"));
+                }
+            }
             Ok(Feed::Refused(refusal, n)) if n == len => {
                 self.counters.messages_in += 1;
                 self.counters.refused(refusal);
@@ -64,114 +89,77 @@ impl Server {
             Ok(_) => return Err(Failure::Library(Error::Unexpected(1))),
             Err(error) => return Err(error.into()),
         }
-        self.collect_all(now)?;
-        Ok(true)
+        if let Some(client) = &mut self.clients[slot] {
+            client.input.remove(len);
+        }
+        self.expect_messages();
+        self.look(slot, now);
+        Ok(())
     }
 
-    /// Answers HELP when all that was queued before it is on its way. The library gets a blank
-    /// line in its place, so that the client's kind is fixed as by any first message.
-    pub(super) fn help(&mut self, slot: usize, len: usize, now: Instant) -> Result<bool, Failure> {
-        self.collect(slot, now)?;
+    /// Answers HELP; all that was queued before it is taken. The library gets a blank line in its
+    /// place, so that the client's kind is fixed as by any first message.
+    fn help(&mut self, slot: usize, len: usize) -> Result<(), Failure> {
         let Some(client) = &mut self.clients[slot] else {
-            return Ok(false);
+            return Ok(());
         };
-        if client.queued || client.leaving.is_some() {
-            return Ok(false);
-        }
+        let fed = self.broker.feed(slot, b"\n");
+        client.note_accepted(Command::Help, len, self.changes);
         client.input.remove(len);
-        match self.broker.feed(slot, b"\n")? {
-            Feed::Done(1) => {}
-            other => return Err(Failure::Library(Error::Unexpected(other.number()))),
+        match fed {
+            Ok(Feed::Done(1)) => {}
+            Ok(other) => return Err(Failure::Library(Error::Unexpected(other.number()))),
+            // Another's message has shut it meanwhile, and that is found where it is looked at.
+            Err(Error::Shut) => return Ok(()),
+            Err(error) => return Err(error.into()),
         }
-        client.output.push(help::PAGE.as_bytes(), false);
+        client.say(help::PAGE);
         self.counters.help += 1;
         self.log.client(format_args!("help slot={slot}"));
-        Ok(true)
+        Ok(())
     }
 
-    /// Closes a client that sent WRITE to a read-only listener. What is queued is still written
-    /// as far as it fits the buffer; no ERROR comes, since the library saw nothing.
-    pub(super) fn refuse_write(&mut self, slot: usize, now: Instant) -> Result<(), Failure> {
-        self.collect(slot, now)?;
+    /// Closes a client that sent WRITE to a read-only listener, behind the answers to all that it
+    /// sent before. No ERROR comes, since the library saw nothing.
+    fn refuse_write(&mut self, slot: usize, now: Instant) {
         if let Some(client) = &mut self.clients[slot] {
             self.counters.read_only += 1;
             self.log
                 .client(format_args!("read-only slot={slot} WRITE refused"));
-            client.leave(Reason::ReadOnly, now);
-            client.drained = true;
-            client.queued = false;
-        }
-        Ok(())
-    }
-
-    /// Takes for all clients what a feed may have queued.
-    pub(super) fn collect_all(&mut self, now: Instant) -> Result<(), Failure> {
-        for slot in 0..self.clients.len() {
-            self.collect(slot, now)?;
-        }
-        Ok(())
-    }
-
-    /// Takes a client's messages while its output has room, and writes when it is full.
-    pub(super) fn collect(&mut self, slot: usize, now: Instant) -> Result<(), Failure> {
-        loop {
-            let Some(client) = &mut self.clients[slot] else {
-                return Ok(());
-            };
-            let memory = self.broker.memory();
-            let waiting = self.view.and_then(|view| view.waiting(memory, slot));
-            if client.drained || waiting == Some(false) {
-                client.queued = false;
-                return Ok(());
-            }
-            let shut = self.view.and_then(|view| view.shut(memory, slot));
-            if shut == Some(true) && client.leaving.is_none() {
-                self.note_overflow(slot, now);
-                continue;
-            }
-            if client.is_blocked() {
-                self.counters.bytes_out += client.write(now) as u64;
-                if client.is_blocked() {
-                    client.queued = true;
-                    return Ok(());
-                }
-            }
-            let Some(len) = self.broker.take(slot, &mut self.take_room)? else {
-                client.queued = false;
-                return Ok(());
-            };
-            let message = &self.take_room[..len];
-            if !client.gone {
-                client.output.push(message, client.kind == Kind::Packets);
-                self.counters.messages_out += 1;
-            }
-            if is_error(client.kind, message) {
-                client.drained = true;
-                self.note_overflow(slot, now);
-            }
+            client.turn_away(help::READ_ONLY, Reason::ReadOnly, now);
         }
     }
 
-    /// Notes that a client is shut. Unless a refused message is why, its queue overflowed.
-    pub(super) fn note_overflow(&mut self, slot: usize, now: Instant) {
-        if let Some(client) = self.clients[slot].as_mut().filter(|c| c.leaving.is_none()) {
-            self.counters.overflows += 1;
-            self.log
-                .client(format_args!("shut slot={slot} 102 its queue overflowed"));
-            client.leave(Reason::Overflow, now);
+    /// What of a message is longer than its listener takes, and the limit.
+    fn excess(&self, slot: usize, command: Command, len: usize) -> Option<(&'static str, usize)> {
+        let client = self.clients[slot].as_ref()?;
+        let limits = client.limits;
+        let (what, limit) = match command {
+            Command::Read | Command::Write => ("key", limits.key),
+            Command::Sub | Command::Unsub => ("pattern", limits.pattern),
+            _ => ("", usize::MAX),
+        };
+        let length = || first_length(client.kind, client.input.front(len));
+        if limit < usize::MAX && length() > limit {
+            return Some((what, limit));
         }
+        let recorded = client
+            .recorded
+            .as_ref()
+            .filter(|_| command != Command::Commit);
+        let full = recorded.is_some_and(|recorded| recorded.commands >= limits.transaction);
+        full.then_some(("transaction", limits.transaction))
     }
 
-    /// Writes what the sockets take of all output.
-    pub(super) fn write_all(&mut self, now: Instant) -> Result<(), Failure> {
-        for slot in 0..self.clients.len() {
-            if let Some(client) = &mut self.clients[slot] {
-                self.counters.bytes_out += client.write(now) as u64;
-                if client.queued && !client.is_blocked() {
-                    self.collect(slot, now)?;
-                }
-            }
+    /// Closes a client that sends more than its listener takes.
+    fn refuse_long(&mut self, slot: usize, what: &str, limit: usize, now: Instant) {
+        if let Some(client) = &mut self.clients[slot] {
+            self.counters.too_long += 1;
+            let unit = help::unit(what);
+            self.log.client(format_args!(
+                "too-long slot={slot} a {what} of over {limit} {unit}"
+            ));
+            client.turn_away(&help::too_long(what, limit), Reason::TooLong, now);
         }
-        Ok(())
     }
 }

@@ -6,18 +6,89 @@
 use infod3::Sizes;
 use infod3d::counters::Counters;
 use infod3d::listener::Place;
+use infod3d::options::ListenerOptions;
 use infod3d::{sys, Handle, Log, Options, Server};
-use std::io::{Read, Write};
+use std::io::{BufRead, BufReader, Read, Write};
 use std::net::{Shutdown, SocketAddr, TcpStream};
 use std::os::fd::{AsFd, OwnedFd};
 use std::os::unix::net::UnixStream;
 use std::path::PathBuf;
+use std::process::{Child, Command, Stdio};
 use std::sync::atomic::{AtomicU32, Ordering};
 use std::sync::{mpsc, Arc, Mutex};
 use std::time::{Duration, Instant};
 
 /// How long a test waits for anything.
 pub const PATIENCE: Duration = Duration::from_secs(30);
+
+/// The program as a process, killed at the end where it still runs.
+pub struct Program {
+    child: Child,
+    /// The lines of its log, which a thread reads.
+    log: mpsc::Receiver<String>,
+}
+
+impl Program {
+    /// Starts the program; `change` may add arguments and environment.
+    pub fn start(change: impl FnOnce(&mut Command)) -> Program {
+        let mut command = Command::new(env!("CARGO_BIN_EXE_infod3d"));
+        change(&mut command);
+        Program::spawn(command)
+    }
+
+    /// Starts a command that becomes the program.
+    pub fn spawn(mut command: Command) -> Program {
+        command.stdout(Stdio::piped()).stderr(Stdio::piped());
+        let mut child = command.spawn().expect("infod3d runs");
+        let lines = BufReader::new(child.stderr.take().expect("its log")).lines();
+        let (sender, log) = mpsc::channel();
+        std::thread::spawn(move || lines.map_while(Result::ok).try_for_each(|l| sender.send(l)));
+        Program { child, log }
+    }
+
+    /// The next line of the log that holds this text.
+    pub fn wait_for(&mut self, text: &str) -> String {
+        loop {
+            let line = self.log.recv_timeout(PATIENCE);
+            let line = line.unwrap_or_else(|error| panic!("no {text:?} in the log: {error}"));
+            if line.contains(text) {
+                return line;
+            }
+        }
+    }
+
+    /// Sends a signal, such as `-TERM`.
+    pub fn signal(&self, name: &str) {
+        let pid = self.child.id().to_string();
+        let sent = Command::new("kill").args([name, &pid]).status();
+        assert!(sent.expect("kill runs").success());
+    }
+
+    /// Waits for the end: the status, what was said on standard output, and the rest of the log.
+    pub fn finish(mut self) -> (Option<i32>, String, String) {
+        let until = Instant::now() + PATIENCE;
+        let status = loop {
+            if let Some(status) = self.child.try_wait().expect("a process") {
+                break status.code();
+            }
+            assert!(Instant::now() < until, "the process does not end");
+            std::thread::sleep(Duration::from_millis(2));
+        };
+        let mut output = String::new();
+        let mut stdout = self.child.stdout.take().expect("its output");
+        stdout.read_to_string(&mut output).expect("UTF-8");
+        let log = std::iter::from_fn(|| self.log.recv_timeout(PATIENCE).ok());
+        (status, output, log.map(|line| line + "\n").collect())
+    }
+}
+
+impl Drop for Program {
+    fn drop(&mut self) {
+        // One that has ended needs no killing.
+        let _ = self.child.kill();
+        let _ = self.child.wait();
+    }
+}
 
 /// A folder of a test's own, removed at its end.
 pub struct Folder(pub PathBuf);
@@ -67,6 +138,15 @@ impl Lines {
         }
     }
 
+    /// Waits until the log holds this text so many times.
+    pub fn wait_for_count(&self, text: &str, count: usize) {
+        let until = Instant::now() + PATIENCE;
+        while self.count(text) != count {
+            assert!(Instant::now() < until, "{}", self.text());
+            std::thread::sleep(Duration::from_millis(2));
+        }
+    }
+
     pub fn count(&self, text: &str) -> usize {
         self.text().matches(text).count()
     }
@@ -90,13 +170,15 @@ pub fn sized(slots: usize, store: usize, queue: usize, record: usize) -> Running
     })
 }
 
-/// A server with changed options.
+/// A server with changed options. Its listeners are TCP, Unix and seqpacket, in this order.
 pub fn start(change: impl FnOnce(&mut Options)) -> Running {
     let folder = Folder::new();
     let mut options = Options {
-        tcp: vec!["127.0.0.1:0".parse().expect("an address")],
-        unix: vec![folder.0.join("stream")],
-        packets: vec![folder.0.join("packets")],
+        listeners: vec![
+            ListenerOptions::tcp("127.0.0.1:0".parse().expect("an address")),
+            ListenerOptions::unix(folder.0.join("stream")),
+            ListenerOptions::packets(folder.0.join("packets")),
+        ],
         ..Options::default()
     };
     change(&mut options);
@@ -106,7 +188,10 @@ pub fn start(change: impl FnOnce(&mut Options)) -> Running {
     let places = server.places();
     let handle = server.handle().expect("a handle");
     let (sender, result) = mpsc::channel();
-    std::thread::spawn(move || sender.send(server.run().map_err(|error| error.to_string())));
+    std::thread::spawn(move || {
+        // A test that has failed waits no more.
+        let _ = sender.send(server.run().map_err(|error| error.to_string()));
+    });
     let Place::Tcp(tcp) = places[0] else {
         panic!("the first listener is TCP");
     };
@@ -186,7 +271,7 @@ pub struct Client {
 }
 
 impl Client {
-    fn new(stream: Box<dyn Stream>) -> Client {
+    pub fn new(stream: Box<dyn Stream>) -> Client {
         Client {
             stream,
             bytes: Vec::new(),
@@ -195,6 +280,11 @@ impl Client {
 
     pub fn send(&mut self, bytes: impl AsRef<[u8]>) {
         self.stream.write_all(bytes.as_ref()).expect("sent");
+    }
+
+    /// The number of bytes that were read from the stream and not asked for.
+    pub fn buffered(&self) -> usize {
+        self.bytes.len()
     }
 
     /// Sends what the server may refuse to take because it has closed.

@@ -318,8 +318,9 @@ impl Client {
         let Some(recorded) = &mut self.recorded else {
             if command == Command::Begin {
                 self.recorded = Some(Recorded::default());
-                let talk = self.input.transaction(self.kind).filter(|_| self.gone);
-                self.talk = talk.map(|(text, _)| text);
+                if self.gone {
+                    self.talk = self.input.transaction(self.kind).map(|(text, _)| text);
+                }
             } else if self.gone {
                 self.known.note(command, self.input.front(len), state);
             }

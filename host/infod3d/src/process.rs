@@ -52,9 +52,16 @@ impl Process {
     }
 }
 
-/// The port in the log, up to the line of the last listener; the rest of the log is dropped.
+/// The port in the log, whose rest is dropped.
 fn first_port(child: &mut Child) -> Option<SocketAddr> {
     let mut log = BufReader::new(child.stderr.take()?);
+    let port = port_in(&mut log);
+    std::thread::spawn(move || io::copy(&mut log, &mut io::sink()));
+    port
+}
+
+/// The TCP port that a server's log names, which is read up to the line of its Unix socket.
+pub fn port_in(log: &mut impl BufRead) -> Option<SocketAddr> {
     let mut port = None;
     loop {
         let mut line = String::new();
@@ -65,11 +72,9 @@ fn first_port(child: &mut Child) -> Option<SocketAddr> {
             port = place.split_whitespace().next()?.parse().ok();
         }
         if line.contains(" listen unix ") {
-            break;
+            return port;
         }
     }
-    std::thread::spawn(move || io::copy(&mut log, &mut io::sink()));
-    port
 }
 
 /// The seconds of processor time that a process has used, by the system's table.

@@ -1,7 +1,7 @@
 //! A server process of a hostile night, whose log is read and dropped, or not read at all.
 
-use infod3d::process::Process;
-use std::io::{self, BufRead, BufReader};
+use infod3d::process::{port_in, Process};
+use std::io::{self, BufReader};
 use std::net::SocketAddr;
 use std::path::PathBuf;
 use std::process::{Child, ChildStderr, Command, Stdio};
@@ -94,24 +94,7 @@ fn first_port(pipe: ChildStderr) -> Option<(SocketAddr, BufReader<ChildStderr>)>
     let (sender, receiver) = mpsc::channel();
     std::thread::spawn(move || {
         let mut log = BufReader::new(pipe);
-        let _ = sender.send(port(&mut log).map(|port| (port, log)));
+        let _ = sender.send(port_in(&mut log).map(|port| (port, log)));
     });
     receiver.recv_timeout(Duration::from_secs(30)).ok()?
-}
-
-/// The port in the log, which is read up to the line of the Unix socket.
-fn port(log: &mut BufReader<ChildStderr>) -> Option<SocketAddr> {
-    let mut port = None;
-    loop {
-        let mut line = String::new();
-        if log.read_line(&mut line).ok()? == 0 {
-            return None;
-        }
-        if let Some((_, place)) = line.split_once(" listen tcp ") {
-            port = place.split_whitespace().next()?.parse().ok();
-        }
-        if line.contains(" listen unix ") {
-            return port;
-        }
-    }
 }

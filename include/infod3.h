@@ -1,30 +1,34 @@
-/* infod3.h: the Uktervan message broker over lent memory, for C and for every language that calls C.
+/* infod3.h: the Uktervan message broker over lent memory, for C and for every language that calls C;
+ * and the client's side of the protocol: commands written and messages read.
  *
  * The broker speaks infod3, version 0. It keeps everything it knows in one slice of bytes that the
  * caller lends with each call, and nothing anywhere else: no globals, no heap, no system calls. A
  * slice is a pointer and a length; NULL with length 0 is an empty slice. The memory may lie at any
  * address. Two calls that run at the same time must not be lent the same memory. The slices of one
- * call must not overlap. A feed needs up to 512 KiB of stack, every other call less than 1 KiB.
+ * call must not overlap. A feed needs up to 512 KiB of stack, every other call less than 2 KiB.
  *
  * Every function takes any argument. Every call ends with one of these answers:
  *
  *     0  done
- *     1  feed: more bytes are wanted; nothing is consumed
+ *     1  feed, read_message: more bytes are wanted; nothing is consumed
  *     2  slot number N or more, or the slot is free (for open: only the first)
  *     3  feed: the client is shut
  *     4  open: the slot is open, or shut and not yet closed
- *     5  a lent slice is too short: the memory of set up, or the out slice of take
+ *     5  a lent slice is too short: the memory of set up, or the out slice of take, write_command or
+ *        read_message
  *     6  take: the queue is empty
  *     7  the memory breaks a rule of its layout (docs/layout.md)
- *     8  a size of set up is out of range, or a form is neither 0 nor 1
+ *     8  a size of set up is out of range; or a form is neither 0 nor 1 (write_command, read_message:
+ *        above 2)
  *   100  unknown or malformed message
  *   101  bad parameter
  *   102  no room
  *   103  bad command state
  *
- * Answers 1 to 8 leave every lent byte as it was, and the count beside them is 0. A message refused
- * with 100 to 103 queues one ERROR to its client, shuts it, and drops its patterns and its recording;
- * the store and all other clients stay as they were.
+ * Answers 1 to 8 leave every lent byte as it was, and the counts beside them are 0. A feed refused with
+ * 100 to 103 queues one ERROR to its client, shuts it, and drops its patterns and its recording; the
+ * store and all other clients stay as they were. Every refusal of write_command and read_message, 100
+ * to 102 too, leaves the out slice as it was.
  *
  * Every function is proved to meet the contract that these comments put in words; the proofs are in
  * the repository's crates.
@@ -40,7 +44,8 @@
 extern "C" {
 #endif
 
-/* What a call gives back: its answer, and the bytes that a feed consumed or a take wrote. */
+/* What a call gives back: its answer, and the bytes that a feed consumed, or that a take or a
+ * write_command wrote. */
 typedef struct {
     uint32_t answer;
     size_t count;
@@ -52,6 +57,14 @@ typedef struct {
     bool matched;
     size_t steps;
 } infod3_match_result;
+
+/* What a read_message gives back: its answer, the bytes of the input that the message took up, and the
+ * bytes written to out. */
+typedef struct {
+    uint32_t answer;
+    size_t consumed;
+    size_t written;
+} infod3_read;
 
 /* The bytes of memory that a set up needs for n slots (1 to 32), a store room of s bytes (256 to
  * 1,048,576), and for each slot a queue room of q (1,024 to 1,048,576) and a record room of r (256 to
@@ -88,6 +101,33 @@ infod3_reply infod3_close(uint8_t *mem, size_t mem_len, size_t slot);
  * pattern over 255 bytes or a key over 65,535, both with no match and 0 steps; else 0. */
 infod3_match_result infod3_match(const uint8_t *pattern, size_t pattern_len, const uint8_t *key,
                                  size_t key_len);
+
+/* The client's side. A form is here 0 for packets, 1 for framed bytes, 2 for text. Form 0 goes with a
+ * client that was opened in form 0, forms 1 and 2 with one that was opened in form 1, either of them
+ * for as long as it is open. A command that is handed in and a message that is handed out stand as in
+ * packets: one byte of ID, then the payload. What write_command writes a feed reads as that command,
+ * and what a take gives read_message reads as that message. */
+
+/* Writes a command at the front of out; the count is its length, and the rest of out stays as it was.
+ * A text line ends in LF. Answers, in this order: 8 for a form above 2; 100 for an empty command or an
+ * ID above 7; 101 for a HELLO without its version byte, a NUL in a key of READ or in a pattern, an
+ * invalid pattern, a BEGIN or COMMIT with a payload; 102 for a payload over 65,535 bytes or a pattern
+ * over 255; 5 where out is too short; else 0. No command is longer than 262,152 bytes. */
+infod3_reply infod3_write_command(size_t form, const uint8_t *command, size_t command_len,
+                                  uint8_t *out, size_t out_len);
+
+/* Reads the first message of the input: ID and payload are written at the front of out, and the rest of
+ * out stays as it was. A packet is all of its input; a text line ends with its first LF, and only a line
+ * in the very form of a take's is read: the word in capitals, single spaces, every field, numbers from 0
+ * to 255 without leading zeros, strings in quotes with the five escapes alone, CR LF. Answers, in this
+ * order: 8 for a form above 2; 1 where the message is not whole; 100 for an unknown or missing word or
+ * ID, an empty packet too; 101 for any other bad form: a VERSION or ERROR without its number, a NUL in
+ * the key of a text INFO, a line in another form; 102 for a payload over 65,535 bytes; 5 where out is too
+ * short; else 0. Beside 0 and 100 to 102 consumed is the message's length, beside 8, 1 and 5 it is 0. No
+ * message needs more than 65,536 bytes of out, and none that a take gives is longer than 262,152: a
+ * client that has so many bytes and gets 1 may give up. */
+infod3_read infod3_read_message(size_t form, const uint8_t *input, size_t input_len, uint8_t *out,
+                                size_t out_len);
 
 #ifdef __cplusplus
 }

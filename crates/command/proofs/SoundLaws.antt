@@ -127,9 +127,9 @@ reading-sound (suc (suc zero)) p =
     (λ g. record { identity = refl; content = refl; fits = omega (arith, g .short); fine = g })
 reading-sound (suc (suc (suc zero))) p = read-sound p
 reading-sound (suc (suc (suc (suc zero)))) p = write-sound p
-reading-sound (suc (suc (suc (suc (suc zero))))) [] = refl
+reading-sound (suc (suc (suc (suc (suc zero))))) [] = (refl, refl)
 reading-sound (suc (suc (suc (suc (suc zero))))) (b ∷ p) = tt
-reading-sound (suc (suc (suc (suc (suc (suc zero)))))) [] = refl
+reading-sound (suc (suc (suc (suc (suc (suc zero)))))) [] = (refl, refl)
 reading-sound (suc (suc (suc (suc (suc (suc zero)))))) (b ∷ p) = tt
 reading-sound (suc (suc (suc (suc (suc (suc (suc zero))))))) p =
     fitting-sound 7 p Ping (λ h. record { identity = refl; content = refl; fits = h; fine = tt })

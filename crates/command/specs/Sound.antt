@@ -31,10 +31,10 @@ pub record SoundAction (id : ℕ) (p : Bytes) (a : Action) : Type 0 where
   pub fits : length p ≤ 65535
   pub fine : Fine a
 
--- the same of a reading: BEGIN and COMMIT have no payload, and a refusal is no command
+-- the same of a reading: BEGIN and COMMIT have their IDs and no payload, and a refusal is no command
 abbrev pub SoundReading : ℕ → Bytes → Reading → Type 0
 SoundReading id p blank = ⊥
-SoundReading id p (command begin) = length p ≡ 0
-SoundReading id p (command commit) = length p ≡ 0
+SoundReading id p (command begin) = (id ≡ 5) × (length p ≡ 0)
+SoundReading id p (command commit) = (id ≡ 6) × (length p ≡ 0)
 SoundReading id p (command (plain a)) = SoundAction id p a
 SoundReading id p (invalid r) = Unit {0}

@@ -1,7 +1,8 @@
 // The broker under C names, for a host to link: set up, open, feed, take and close over one lent
-// slice, the bytes that a set up needs, and a match asked by itself. A slice is two C arguments, a
-// pointer and a length; NULL with length 0 is an empty one. Every function takes any numbers and any
-// bytes and promises what the function behind it promises; include/infod3.h says the same in words.
+// slice, the bytes that a set up needs, and a match asked by itself; and the client's side, commands
+// written and messages read. A slice is two C arguments, a pointer and a length; NULL with length 0
+// is an empty one. Every function takes any numbers and any bytes and promises what the function
+// behind it promises; include/infod3.h says the same in words.
 // What a host owes is C's own: a slice is memory that is its to lend, and the slices of one call do
 // not overlap.
 ghost use mathlib.Core.Path.{_≡_};
@@ -9,9 +10,12 @@ ghost use Rattle.pattern.specs.Answer.{answer};
 ghost use Rattle.infod3.specs.Infod3.{infod3};
 ghost use Rattle.model.specs.Decision.{opens, feeds, closes};
 ghost use Rattle.refinement.specs.Contracts.{sizesWith, sizeFor, SetsUp, Serves, Takes};
+ghost use Rattle.client.specs.Writing.{outcomeOf, writeCommand};
+ghost use Rattle.client.specs.Reading.{result, readMessage};
 ghost use Rattle.ffi.specs.Results.{matchResult};
 
-// What a call gives back: its answer, and the bytes consumed by a feed or written by a take.
+// What a call gives back: its answer, and the bytes consumed by a feed, or written by a take or a
+// writing of a command.
 #[repr(C)]
 pub struct Reply {
     pub answer: u32,
@@ -24,6 +28,14 @@ pub struct MatchResult {
     pub answer: u32,
     pub matched: bool,
     pub steps: usize,
+}
+
+// What a reading of a message gives: the answer, the bytes consumed, and the bytes written.
+#[repr(C)]
+pub struct Read {
+    pub answer: u32,
+    pub consumed: usize,
+    pub written: usize,
 }
 
 // The reply of a call, for C.
@@ -99,5 +111,32 @@ pub extern "C" fn infod3_match(pattern: &[u8], key: &[u8]) -> MatchResult
         answer: r.answer,
         matched: r.matched,
         steps: r.steps,
+    }
+}
+
+// Writes a command: see client::write_command.
+#[no_mangle]
+pub extern "C" fn infod3_write_command(form: usize, command: &[u8], out: &mut [u8]) -> Reply
+    ensures { λ x. ⌜ outcomeOf (x .answer) (x .count) (now (out .exit))
+        ≡ writeCommand form (now (command .entry)) (now (out .entry)) ⌝ }
+{
+    let r = client::write_command(form, command, out);
+    Reply {
+        answer: r.answer,
+        count: r.count,
+    }
+}
+
+// Reads a message: see client::read_message.
+#[no_mangle]
+pub extern "C" fn infod3_read_message(form: usize, input: &[u8], out: &mut [u8]) -> Read
+    ensures { λ x. ⌜ result (x .answer) (x .consumed) (x .written) (now (out .exit))
+        ≡ readMessage form (now (input .entry)) (now (out .entry)) ⌝ }
+{
+    let r = client::read_message(form, input, out);
+    Read {
+        answer: r.answer,
+        consumed: r.consumed,
+        written: r.written,
     }
 }

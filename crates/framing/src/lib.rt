@@ -96,7 +96,7 @@ fn end_from(s: &[u8], at: usize) -> usize
 
 // The index of the first byte that ends a line, or the length of s where none does. Blocks without
 // one are passed whole.
-fn line_end(s: &[u8]) -> usize
+pub fn line_end(s: &[u8]) -> usize
     ensures { λ r. ⌜ r ≡ lineEnd (now (s .entry)) ⌝ }
 {
     let mut i = 0;
@@ -123,12 +123,6 @@ fn line_length(s: &[u8]) -> usize
     if 262152 <= s.len() { 262152 } else { 0 }
 }
 
-fn wide(x: u8) -> usize
-    ensures { λ r. ⌜ (r ≡ x) × (r < 256) ⌝ }
-{
-    x as usize
-}
-
 // The length of the first frame of s; 0 where it is not whole.
 fn frame_length(s: &[u8]) -> usize
     ensures { λ r. ⌜ r ≡ frameLength (now (s .entry)) ⌝ }
@@ -136,8 +130,8 @@ fn frame_length(s: &[u8]) -> usize
     if s.len() < 3 {
         return 0;
     }
-    let high = wide(s[1]);
-    let low = wide(s[2]);
+    let high = octets::wide(s[1]);
+    let low = octets::wide(s[2]);
     let n = 3 + (high * 256 + low);
     if n <= s.len() { n } else { 0 }
 }

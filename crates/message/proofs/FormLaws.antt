@@ -147,3 +147,22 @@ key-value b = by (ltb (firstNul b) (length b)) refl
 pub payload-info : (b : Bytes) → messagePayload (said Info b) ≡ b
 unfolding messagePayload said
 payload-info b = key-value b
+
+-- ---- the last ID of a match
+
+above : (n i : ℕ) → n ≤ i → (i ≡ n → ⊥) → suc n ≤ i
+above n i h k = omega arith
+
+between : (n i : ℕ) → n ≤ i → i < suc n → i ≡ n
+between n i h k = omega arith
+
+-- an ID below 8 that is none of the first seven
+pub seventh : (i : ℕ) → i < 8 → (i ≡ 0 → ⊥) → (i ≡ 1 → ⊥) → (i ≡ 2 → ⊥) → (i ≡ 3 → ⊥) → (i ≡ 4 → ⊥) → (i ≡ 5 → ⊥)
+    → (i ≡ 6 → ⊥) → i ≡ 7
+seventh i h a b c d e f g =
+    between 7 i
+    (above 6 i (above 5 i (above 4 i (above 3 i (above 2 i (above 1 i (above 0 i zero-le a) b) c) d) e) f) g)
+    h
+  where
+    zero-le : 0 ≤ i
+    zero-le = omega arith

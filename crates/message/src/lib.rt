@@ -1,13 +1,13 @@
 // The server's messages as bytes, for clients of each kind: how long a message is, and the message
-// written to a lent slice. A message is an ID, the word of its text line, the shape of its fields
-// and a payload in binary form.
+// written to a lent slice; and the commands, written in the same forms. A message is an ID, the word
+// of its text line, the shape of its fields and a payload in binary form.
 ghost use mathlib.Core.Path.{_≡_};
-ghost use Prim.Native.Nat.{_≤_};
+ghost use Prim.Native.Nat.{_≤_, _<_};
 ghost use lib.ListN.{length};
 ghost use lib.Seq.{sets};
 ghost use Rattle.protocol.specs.Terms;
 ghost use Rattle.message.specs.Rows.{row};
-ghost use Rattle.message.specs.Forms.{packet, frame, form};
+ghost use Rattle.message.specs.Forms.{packet, frame, form, encoded};
 ghost use Rattle.message.specs.Post.{HasRoom};
 ghost use Rattle.message.specs.Writing.{said, lengthWith, writtenLength};
 ghost use Rattle.message.specs.Writing.{answered, outcome, writing};
@@ -17,6 +17,9 @@ use protocol::Refusal;
 mod line;
 mod quoting;
 
+pub use quoting::escaped_in;
+pub use quoting::is_escaped;
+
 // How the fields of a text line follow from a payload.
 pub enum Shape {
     // A number, which is the first byte, and the rest as a string.
@@ -25,8 +28,7 @@ pub enum Shape {
     Quoted,
     // A key up to the first NUL, and the rest, if there is a NUL, as a value.
     Keyed,
-    // No fields, as BEGIN and COMMIT have none. No message of the server is so: it is there for a
-    // writer of commands.
+    // No fields: BEGIN, COMMIT.
     Bare,
 }
 
@@ -73,6 +75,25 @@ pub fn write(kind: Kind, message: Message, body: &[u8], out: &mut [u8]) -> Writt
         Message::Info => encode(kind, 129, b"INFO", Shape::Keyed, body, out),
         Message::Pong => encode(kind, 130, b"PONG", Shape::Quoted, body, out),
         Message::Error(r) => write_error(kind, r, out),
+    }
+}
+
+// Writes the command of an ID, which is one of the eight, and a payload, as `write` does.
+pub fn write_command(kind: Kind, id: u8, payload: &[u8], out: &mut [u8]) -> Written
+    requires { ⌜ id < 8 ⌝ }
+    ensures { λ r. ⌜ answered r (now (out .exit))
+        ≡ outcome (now (payload .entry))
+        (encoded kind id (now (payload .entry))) (now (out .entry)) ⌝ }
+{
+    match id {
+        0 => encode(kind, 0, b"HELLO", Shape::Numbered, payload, out),
+        1 => encode(kind, 1, b"SUB", Shape::Quoted, payload, out),
+        2 => encode(kind, 2, b"UNSUB", Shape::Quoted, payload, out),
+        3 => encode(kind, 3, b"READ", Shape::Quoted, payload, out),
+        4 => encode(kind, 4, b"WRITE", Shape::Keyed, payload, out),
+        5 => encode(kind, 5, b"BEGIN", Shape::Bare, payload, out),
+        6 => encode(kind, 6, b"COMMIT", Shape::Bare, payload, out),
+        _ => encode(kind, 7, b"PING", Shape::Quoted, payload, out),
     }
 }
 

@@ -12,7 +12,7 @@ use Rattle.octets.specs.Octets.{Bytes}
 use Rattle.text.specs.Fields.{octal, malformed, onto, quoted, escaped}
 
 -- the octal digits of a number, the highest first; they are three below 512
-abbrev digits : ℕ → Bytes
+abbrev pub digits : ℕ → Bytes
 digits n = (48 + n / 64) ∷ (48 + n / 8 % 8) ∷ (48 + n % 8) ∷ []
 
 -- a digit of value d, of the first n
@@ -22,7 +22,8 @@ digit-least d = le-leb 48 (48 + d) (omega arith)
 digit-most : (d n : ℕ) → d < n → ltb (48 + d) (48 + n) ≡ true
 digit-most d n h = lt-ltb (48 + d) (48 + n) (omega arith)
 
-octal-digits : (n : ℕ) → n < 256 → octal (48 + n / 64) (48 + n / 8 % 8) (48 + n % 8) ≡ some n
+-- the digits of a number below 256 spell it
+pub octal-digits : (n : ℕ) → n < 256 → octal (48 + n / 64) (48 + n / 8 % 8) (48 + n % 8) ≡ some n
 unfolding octal
 octal-digits n h =
     let value : ((48 + n / 64 - 48) * 8 + (48 + n / 8 % 8 - 48)) * 8 + (48 + n % 8 - 48) ≡ n = omega arith in

@@ -20,7 +20,7 @@ and-false : (a b : Bool) → b ≡ false → (a && b) ≡ false
 and-false true b e = e
 and-false false b e = refl
 
-decimal-grows : (s : Bytes) (n : ℕ) → n ≤ decimal n s
+pub decimal-grows : (s : Bytes) (n : ℕ) → n ≤ decimal n s
 unfolding decimal
 decimal-grows [] n = le-refl n
 decimal-grows (c ∷ s) n = omega (arith, decimal-grows s (n * 10 + (c - 48)))

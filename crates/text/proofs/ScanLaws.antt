@@ -85,7 +85,7 @@ module _ (s : Bytes) (i : ℕ) where
       rw (drop-cons s i 0 h₀, eq-eqb _ _ e, ← add-one i, drop-cons s (i + 1) 0 h, ne-eqb _ _ f)
 
   -- four bytes from i on
-  four : i + 3 < length s → drop i s ≡ getD s i 0 ∷ getD s (i + 1) 0 ∷ getD s (i + 2) 0 ∷ getD s (i + 3) 0 ∷ drop
+  pub four : i + 3 < length s → drop i s ≡ getD s i 0 ∷ getD s (i + 1) 0 ∷ getD s (i + 2) 0 ∷ getD s (i + 3) 0 ∷ drop
       (i + 4) s
   four h =
       let e₁ : suc i ≡ i + 1 = omega arith in
@@ -154,18 +154,19 @@ nul-snoc (a ∷ v) b = rw (nul-snoc v b) (or-or (eqb a 0) (hasNul v) (eqb b 0))
     or-or true y z = refl
     or-or false y z = refl
 
-pub record Scanning (line : Bytes) (at : ℕ) (buf : Bytes) (to : ℕ) (buf′ : Bytes) (i n : ℕ) (nul : Bool) : Type 0
-  where
-    pub done : Bytes
-    pub is : quoted (drop at line) ≡ ahead done (quoted (drop i line))
-    pub stored : Stored done n nul buf to buf′
-    pub within : i ≤ length line
-    pub short : at + n ≤ i
+-- the n bytes of a string that f reads, from `at` to i, are stored from `to` on
+pub record Scanning (f : Bytes → Scan) (line : Bytes) (at : ℕ) (buf : Bytes) (to : ℕ) (buf′ : Bytes) (i n : ℕ)
+    (nul : Bool) : Type 0 where
+  pub done : Bytes
+  pub is : f (drop at line) ≡ ahead done (f (drop i line))
+  pub stored : Stored done n nul buf to buf′
+  pub within : i ≤ length line
+  pub short : at + n ≤ i
 
-pub scan-start : (line : Bytes) (at : ℕ) (buf : Bytes) (to : ℕ) → at ≤ length line
-    → Scanning line at buf to buf at 0 false
+pub scan-start : (f : Bytes → Scan) (line : Bytes) (at : ℕ) (buf : Bytes) (to : ℕ) → at ≤ length line
+    → Scanning f line at buf to buf at 0 false
 unfolding hasNul
-scan-start line at buf to h =
+scan-start f line at buf to h =
     record {
       done = [];
       is = ahead-none _;
@@ -241,23 +242,23 @@ module _ (s : Bytes) (i : ℕ) (h : i + 3 < length s) (e : getD s i 0 ≡ 92) wh
   escape-bad f = escape-on s i h e ∙ ap (λ (o : Option ℕ). onto o (quoted (drop (i + 4) s)))
       (octal-bad (octal (getD s (i + 1) 0) (getD s (i + 2) 0) (getD s (i + 3) 0)) f)
 
--- ---- a turn of the quoted field
+-- ---- a turn of a string
 
-module _ {line : Bytes} {at : ℕ} {buf : Bytes} {to : ℕ} {buf′ : Bytes} {i n : ℕ} {nul : Bool}
-    (w : Scanning line at buf to buf′ i n nul) where
+module _ {f : Bytes → Scan} {line : Bytes} {at : ℕ} {buf : Bytes} {to : ℕ} {buf′ : Bytes} {i n : ℕ} {nul : Bool}
+    (w : Scanning f line at buf to buf′ i n nul) where
   pub scan-byte : (r b : ℕ) (buf″ : Bytes) (nul′ : Bool)
-      → Stepped line i r (quoted (drop i line)) (onto (some b) (quoted (drop r line)))
-      → buf″ ≡ set buf′ (to + n) b → nul′ ≡ (nul || eqb b 0) → Scanning line at buf to buf″ r (n + 1) nul′
-  scan-byte r b buf″ nul′ p e f = record {
+      → Stepped line i r (f (drop i line)) (onto (some b) (f (drop r line)))
+      → buf″ ≡ set buf′ (to + n) b → nul′ ≡ (nul || eqb b 0) → Scanning f line at buf to buf″ r (n + 1) nul′
+  scan-byte r b buf″ nul′ p e g = record {
     done = w .done ++ (b ∷ []);
-    is = w .is ∙ rw (p .is) (ahead-onto (w .done) b (quoted (drop r line)));
-    stored = stored-snoc (w .done) n nul buf to buf′ buf″ b nul′ (w .stored) e f;
+    is = w .is ∙ rw (p .is) (ahead-onto (w .done) b (f (drop r line)));
+    stored = stored-snoc (w .done) n nul buf to buf′ buf″ b nul′ (w .stored) e g;
     within = p .within;
     short = omega (arith, w .short, p .on);
   }
 
-  pub scan-close : (r : ℕ) → Stepped line i r (quoted (drop i line)) (scanned [] (drop r line))
-      → ScannedAs line at n r nul buf to buf′
+  pub scan-close : (r : ℕ) → Stepped line i r (f (drop i line)) (scanned [] (drop r line))
+      → ScannedAs (f (drop at line)) line at n r nul buf to buf′
   unfolding ahead
   scan-close r p = record {
     value = w .done;
@@ -267,7 +268,7 @@ module _ {line : Bytes} {at : ℕ} {buf : Bytes} {to : ℕ} {buf′ : Bytes} {i 
     short = omega (arith, w .short, p .on);
   }
 
-  pub scan-bad : quoted (drop i line) ≡ malformed → quoted (drop at line) ≡ malformed
+  pub scan-bad : f (drop i line) ≡ malformed → f (drop at line) ≡ malformed
   unfolding ahead
   scan-bad e = w .is ∙ rw e
 

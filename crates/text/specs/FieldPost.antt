@@ -43,11 +43,11 @@ pub record Stepped (line : Bytes) (i r : ℕ) (a b : Scan) : Type 0 where
   pub within : r ≤ length line
   pub is : a ≡ b
 
--- what stands at i in a quoted string
-abbrev pub CharAt : Bytes → ℕ → Char → Type 0
-CharAt line i (Byte1 b r) = Stepped line i r (quoted (drop i line)) (onto (some b) (quoted (drop r line)))
-CharAt line i (Close r) = Stepped line i r (quoted (drop i line)) (scanned [] (drop r line))
-CharAt line i Bad1 = quoted (drop i line) ≡ malformed
+-- what stands at i in a string that f reads
+abbrev pub CharAt : (Bytes → Scan) → Bytes → ℕ → Char → Type 0
+CharAt f line i (Byte1 b r) = Stepped line i r (f (drop i line)) (onto (some b) (f (drop r line)))
+CharAt f line i (Close r) = Stepped line i r (f (drop i line)) (scanned [] (drop r line))
+CharAt f line i Bad1 = f (drop i line) ≡ malformed
 
 -- the bytes v of a field: n of them, with a NUL or not, stored from `to` on
 pub record Stored (v : Bytes) (n : ℕ) (nul : Bool) (buf : Bytes) (to : ℕ) (buf′ : Bytes) : Type 0 where
@@ -55,20 +55,21 @@ pub record Stored (v : Bytes) (n : ℕ) (nul : Bool) (buf : Bytes) (to : ℕ) (b
   pub nuls : nul ≡ hasNul v
   pub held : buf′ ≡ sets buf to v
 
--- a quoted string of n bytes runs from `at` to r; it is shorter than its text, by its closing quote at least
-pub record ScannedAs (line : Bytes) (at : ℕ) (n r : ℕ) (nul : Bool) (buf : Bytes) (to : ℕ) (buf′ : Bytes) : Type 0
-  where
-    pub value : Bytes
-    pub is : quoted (drop at line) ≡ scanned value (drop r line)
-    pub stored : Stored value n nul buf to buf′
-    pub within : r ≤ length line
-    pub short : at + n < r
+-- x, read from `at` on, is a string of n bytes that runs to r and is stored from `to` on; it is shorter than its text,
+-- by its closing quote at least
+pub record ScannedAs (x : Scan) (line : Bytes) (at : ℕ) (n r : ℕ) (nul : Bool) (buf : Bytes) (to : ℕ) (buf′ : Bytes)
+    : Type 0 where
+  pub value : Bytes
+  pub is : x ≡ scanned value (drop r line)
+  pub stored : Stored value n nul buf to buf′
+  pub within : r ≤ length line
+  pub short : at + n < r
 
 -- a quoted string from behind its opening quote
 abbrev pub ScannedAt : Bytes → ℕ → Bytes → ℕ → Found → Bytes → Type 0
 ScannedAt line at buf to Nothing buf′ = ⊥
 ScannedAt line at buf to Faulty buf′ = quoted (drop at line) ≡ malformed
-ScannedAt line at buf to (Field1 n r nul) buf′ = ScannedAs line at n r nul buf to buf′
+ScannedAt line at buf to (Field1 n r nul) buf′ = ScannedAs (quoted (drop at line)) line at n r nul buf to buf′
 
 -- a field of n bytes runs to r
 pub record FoundAs (line : Bytes) (at : ℕ) (n r : ℕ) (nul : Bool) (buf : Bytes) (to : ℕ) (buf′ : Bytes) : Type 0 where

@@ -4,7 +4,7 @@ ghost use mathlib.Core.Bool.{_||_};
 ghost use Prim.Native.Nat.{_+_, _≤_, _<_};
 ghost use lib.ListN.{length, drop};
 ghost use lib.Dec.{eqb};
-ghost use Rattle.text.specs.Fields.{octal, next};
+ghost use Rattle.text.specs.Fields.{octal, quoted, next};
 ghost use Rattle.text.specs.FieldPost.{Skipped, Spelled, octalOf, CharAt, ScannedAt, FoundAt};
 ghost use Rattle.text.specs.FieldPost.{isEnded};
 
@@ -60,7 +60,7 @@ pub fn word_end(line: &[u8], at: usize) -> usize
 }
 
 // The byte that three octal digits spell, at most \377.
-fn octal_of(a: u8, b: u8, c: u8) -> Octal
+pub fn octal_of(a: u8, b: u8, c: u8) -> Octal
     ensures { λ r. ⌜ r ≡ octalOf (octal a b c) ⌝ }
 {
     if a < 48 {
@@ -87,7 +87,7 @@ fn octal_of(a: u8, b: u8, c: u8) -> Octal
 // What stands at i in a quoted field.
 fn char_at(line: &[u8], i: usize) -> Char
     requires { ⌜ i < length (now line) ⌝ }
-    ensures { λ r. ⌜ CharAt (now (line .entry)) i r ⌝ }
+    ensures { λ r. ⌜ CharAt quoted (now (line .entry)) i r ⌝ }
 {
     let c = line[i];
     if c == b'"' {
@@ -120,7 +120,7 @@ fn char_at(line: &[u8], i: usize) -> Char
 }
 
 // Whether there was a NUL, or b is one.
-fn noted(nul: bool, b: u8) -> bool
+pub fn noted(nul: bool, b: u8) -> bool
     ensures { λ r. ⌜ r ≡ (nul || eqb b 0) ⌝ }
 {
     if nul { true } else { b == 0 }

@@ -5,6 +5,13 @@ mod fields;
 mod payloads;
 mod words;
 
+pub use fields::Char;
+pub use fields::Octal;
+pub use fields::noted;
+pub use fields::octal_of;
+pub use fields::word_end;
+pub use payloads::Number;
+pub use payloads::number_of;
 ghost use mathlib.Core.Path.{_≡_};
 ghost use mathlib.Core.Option.{some};
 ghost use Prim.Native.Nat.{_≤_};

@@ -37,13 +37,13 @@ pub enum Built {
 }
 
 // The number that digits spell, where it is below 256.
-fn number_of(s: &[u8]) -> Number
+pub fn number_of(s: &[u8]) -> Number
     ensures { λ r. ⌜ r ≡ numberOf (numberFrom 0 (now (s .entry))) ⌝ }
 {
     let mut n: usize = 0;
     let mut i = 0;
     while i < s.len() {
-        let c = wide(s[i]);
+        let c = octets::wide(s[i]);
         if c < 48 {
             return Number::Bad;
         }
@@ -57,12 +57,6 @@ fn number_of(s: &[u8]) -> Number
         i += 1;
     }
     Number::Is(n as u8)
-}
-
-fn wide(x: u8) -> usize
-    ensures { λ r. ⌜ (r ≡ x) × (r < 256) ⌝ }
-{
-    x as usize
 }
 
 // HELLO's version from `at` on.

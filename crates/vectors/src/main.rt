@@ -1,4 +1,5 @@
-// Runs calls of the broker and shows what each gives back. Each line of standard input is a call:
+// Runs calls of the broker and of the client's side, and shows what each gives back. Each line of
+// standard input is a call:
 //   set N S Q R       set up with these sizes
 //   open I F          open slot I in form F
 //   feed I INPUT      feed the input to slot I
@@ -6,9 +7,12 @@
 //   all I             take all messages of slot I
 //   close I           close slot I
 //   poke AT B         store the byte B in the memory, for memory that breaks a rule
+//   write F N INPUT   write the command that the input is, in form F, into N bytes
+//   read F N INPUT    read the first message of the input, in form F, into N bytes
 // In an input `\n`, `\r`, `\xHH` and `\` before any other byte stand for one byte, and `{N*c}` for
 // N times the byte c. A line that begins with `#` is printed as it is. Every other line is printed,
-// and below it the answer and the count, with the message that was taken.
+// and below it the answer and its numbers, with the bytes that were taken, written or read.
+mod client_side;
 mod expand;
 mod show;
 
@@ -61,8 +65,11 @@ fn feed(mem: &mut [u8], slot: usize, line: &[u8], at: usize) {
 // Takes a message into out, and shows it. Gives the answer.
 fn take_into(mem: &mut [u8], slot: usize, out: &mut [u8]) -> u32 {
     let reply = broker::take(mem, slot, out);
-    let n = octets::min(reply.count, out.len());
-    show::taken(reply, &out[..n]);
+    show::written(
+        reply.answer,
+        reply.count,
+        octets::front(&out[..], reply.count),
+    );
     reply.answer
 }
 
@@ -108,6 +115,8 @@ fn call(mem: &mut [u8], line: &[u8], at: usize)
         b'a' => take_all(mem, slot.value),
         b'c' => show::reply(broker::close(mem, slot.value)),
         b'p' => poke(mem, slot.value, more.value),
+        b'w' => client_side::write(slot.value, more.value, octets::tail(line, more.next)),
+        b'r' => client_side::read(slot.value, more.value, octets::tail(line, more.next)),
         _ => show::put(b"  ?\n"),
     }
 }

@@ -56,25 +56,37 @@ fn message(m: &[u8]) {
     }
 }
 
-// Writes the numbers of a reply.
-fn numbers(r: Reply) {
+// Writes an answer and a count.
+fn numbers(answer: u32, count: usize) {
     put(b"  ");
-    number(r.answer as u64);
-    number(r.count as u64);
+    number(answer as u64);
+    number(count as u64);
 }
 
-// Writes a reply.
-pub fn reply(r: Reply) {
-    numbers(r);
-    put(b"\n");
-}
-
-// Writes the reply of a take, and the message if there is one.
-pub fn taken(r: Reply, m: &[u8]) {
-    numbers(r);
-    if r.answer == 0 {
+// Writes a message, if the answer says that there is one, and ends the line.
+fn with_message(answer: u32, m: &[u8]) {
+    if answer == 0 {
         put(b" ");
         message(m);
     }
     put(b"\n");
+}
+
+// Writes a reply.
+pub fn reply(r: Reply) {
+    numbers(r.answer, r.count);
+    put(b"\n");
+}
+
+// Writes the answer of a take or of a written command, its count, and the bytes if there are some.
+pub fn written(answer: u32, count: usize, m: &[u8]) {
+    numbers(answer, count);
+    with_message(answer, m);
+}
+
+// Writes the answer of a message that was read, its two counts, and its bytes if there are some.
+pub fn read(answer: u32, consumed: usize, written: usize, m: &[u8]) {
+    numbers(answer, consumed);
+    number(written as u64);
+    with_message(answer, m);
 }

@@ -1,13 +1,13 @@
--- Parts of a message, and what the functions of the wire answer for each kind.
+-- What the functions of the wire answer for each kind.
 use mathlib.Core.Path.{_≡_, refl, sym, ap, _∙_}
 use mathlib.Core.List.{[], _∷_}
 use mathlib.Core.Bool.{Bool, true, false}
-use Prim.Native.Nat.{ℕ, suc, _+_, _-_, _≤_, _<_, min}
+use Prim.Native.Nat.{ℕ, suc, _+_, _-_, _≤_, _<_}
 use native.Mathlib.Omega.{arith}
 use lib.Dec.{leb}
-use lib.ListN.{length, take, drop, getD, length-drop, drop-of-length-le}
+use lib.ListN.{length, take, drop, getD}
 use lib.Seq.{take-all, length-take-le, sets, sets-eq, take-append-seam}
-use borrow.Author.Tests.{leb-true, leb-false, le-leb, lt-leb}
+use borrow.Author.Tests.{le-leb, lt-leb}
 use Rattle.octets.specs.Octets.{Bytes}
 use Rattle.protocol.specs.declared.Kind.the-variants.{Packets, Stream, Framed, Text}
 use Rattle.protocol.specs.declared.Refusal.{Refusal}
@@ -24,34 +24,6 @@ use Rattle.wire.specs.Received.{binary, front, lastByte, textLine, decod
 use Rattle.wire.specs.Post.{answerOf, ReadsLine, ReadsIn}
 use Rattle.wire.specs.declared.Reading.{Reading}
 use Rattle.wire.specs.declared.Reading.the-variants.{Blank, Short, Command}
-
--- ---- parts
-
-module _ (n k : ℕ) (s : Bytes) (e : k ≡ min n (length s)) where
-  pub take-clipped : take k s ≡ take n s
-  take-clipped = by (leb (length s) n) refl
-    where
-      by : (b : Bool) → leb (length s) n ≡ b → take k s ≡ take n s
-      by true f =
-          let h = leb-true (length s) n f in
-          take-all k s (omega arith) ∙ sym (take-all n s h)
-      by false f =
-          let h = leb-false (length s) n f in
-          let i : k ≡ n = omega arith in
-          ap (λ (j : ℕ). take j s) i
-
-  pub drop-clipped : take (length s - k) (drop k s) ≡ drop n s
-  drop-clipped = take-all (length s - k) (drop k s) (simp length-drop (omega arith)) ∙ by (leb (length s) n) refl
-    where
-      by : (b : Bool) → leb (length s) n ≡ b → drop k s ≡ drop n s
-      by true f =
-          let h = leb-true (length s) n f in
-          let i : length s ≤ k = omega arith in
-          drop-of-length-le s i ∙ sym (drop-of-length-le s h)
-      by false f =
-          let h = leb-false (length s) n f in
-          let i : k ≡ n = omega arith in
-          ap (λ (j : ℕ). drop j s) i
 
 -- ---- packets and frames
 

@@ -20,7 +20,7 @@ use Rattle.command.specs.declared.Written.the-variants.{Delete, Value}
 use Rattle.command.specs.declared.Command.{Command}
 use Rattle.command.specs.declared.Command.the-variants.{Hello, Sub, Unsub, Read, Write, Begin, Commit, Ping, Refused}
 use Rattle.command.specs.Commands.{commandOf}
-use Rattle.command.specs.Meaning.{meant}
+use Rattle.command.specs.Meaning.{meant, readingOf}
 use Rattle.command.specs.Refusals as Refusals
 use Rattle.command.proofs.Order.{refusal-verdict}
 use Rattle.wire.specs.Received.{binary, lastByte, front, textLine, decodedIn, decoded, readingLine, reading}
@@ -88,6 +88,10 @@ meant-refusal p Commit = refl
 meant-refusal p Ping = refl
 meant-refusal p (Refused r) = refl
 
+-- an ID and a payload are refused as their verdict says
+pub reading-verdict : (id : ℕ) (p : Bytes) → refusalOf (readingOf id p) ≡ Refusals.verdict id p
+reading-verdict id p = meant-refusal p (commandOf id p) ∙ refusal-verdict id p
+
 line-refusal : (l : Line) → Stateless l → refusalOf (readingLine l) ≡ verdict l
 unfolding Refusals.verdict
 line-refusal blank h = refl
@@ -95,7 +99,7 @@ line-refusal (refused Unknown) h = refl
 line-refusal (refused Parameter) h = refl
 line-refusal (refused Room) h = refl
 line-refusal (refused State) h = absurd h
-line-refusal (message id p) h = meant-refusal p (commandOf id p) ∙ refusal-verdict id p
+line-refusal (message id p) h = reading-verdict id p
 
 -- a message is refused as an unknown message exactly where its word or ID is unknown; as a bad parameter exactly
 -- where that is not so and something in it is bad; as no room exactly where none of these is so and something is too

@@ -6,26 +6,26 @@ use mathlib.Core.Bool.{Bool, true, false}
 use mathlib.Core.Option.{some}
 use Prim.Native.Nat.{ℕ, zero, suc, _≤_}
 use native.Mathlib.Omega.{arith}
-use lib.Dec.{eqb}
 use lib.ListN.{length}
-use borrow.Author.Tests.{eqb-true}
+use borrow.Author.Tests.{ne-eqb}
 use Rattle.octets.specs.Octets.{Bytes}
-use Rattle.text.specs.Fields.{scanned, octal, onto, closed, quoted, escaped, trim, starting, next, field, inQuotes}
+use Rattle.text.specs.Fields.{scanned, onto, closed, quoted, trim, starting, next, field, inQuotes}
 use Rattle.text.specs.Fields.{ofScan, fields}
+use Rattle.text.proofs.Escapes.{octal-read}
 use Rattle.message.specs.Quoting.{isEscaped, escape, escapes, quote}
+use Rattle.message.proofs.Laws.{escape-escaped, escape-plain, escaped-below, plain-marks}
 use Rattle.wire.specs.Strings.{quotedFields}
 
--- a byte as the writer escapes it is read as that byte
-read-escape : (c : ℕ) (t : Bytes) (a b d e f : Bool) → eqb c 0 ≡ a → eqb c 10 ≡ b → eqb c 13 ≡ d → eqb c 34 ≡ e
-    → eqb c 92 ≡ f
-    → quoted (escape c ++ t) ≡ onto (some c) (quoted t)
-unfolding quoted escaped octal escape isEscaped
-read-escape c t true b d e f p q r s u = rw (eqb-true c 0 p)
-read-escape c t false true d e f p q r s u = rw (eqb-true c 10 q)
-read-escape c t false false true e f p q r s u = rw (eqb-true c 13 r)
-read-escape c t false false false true f p q r s u = rw (eqb-true c 34 s)
-read-escape c t false false false false true p q r s u = rw (eqb-true c 92 u)
-read-escape c t false false false false false p q r s u = simp (p, q, r, s, u)
+-- a byte as the writer sets it is read as that byte
+read-escape : (c : ℕ) (t : Bytes) → quoted (escape c ++ t) ≡ onto (some c) (quoted t)
+unfolding quoted
+read-escape c t = by (isEscaped c) refl
+  where
+    by : (b : Bool) → isEscaped c ≡ b → quoted (escape c ++ t) ≡ onto (some c) (quoted t)
+    by true e = rw (escape-escaped c e) (octal-read c t (escaped-below c e))
+    by false e =
+        let m = plain-marks c e in
+        rw (escape-plain c e, ne-eqb c 34 (m .0), ne-eqb c 92 (m .1))
 
 -- a string, its closing quote, and what may follow one
 quoted-escapes : (s r : Bytes) → closed r ≡ scanned [] r → quoted (escapes s ++ 34 ∷ r) ≡ scanned s r
@@ -33,9 +33,7 @@ unfolding escapes quoted onto
 quoted-escapes [] r h = h
 quoted-escapes (c ∷ s) r h =
     rw append-assoc
-    (read-escape c (escapes s ++ 34 ∷ r) (eqb c 0) (eqb c 10) (eqb c 13) (eqb c 34) (eqb c 92) refl refl refl refl
-    refl
-    ∙ ap (onto (some c)) (quoted-escapes s r h))
+    (read-escape c (escapes s ++ 34 ∷ r) ∙ ap (onto (some c)) (quoted-escapes s r h))
 
 -- a quoted string before the line's end or a space is one field
 pub next-quote : (s r : Bytes) → closed r ≡ scanned [] r → next (32 ∷ quote s ++ r) ≡ field (inQuotes s) r

@@ -5,7 +5,7 @@
 // `Reading::Short` is never the answer.
 ghost use mathlib.Core.Path.{_≡_};
 ghost use Prim.Native.Nat.{_≤_};
-ghost use lib.ListN.{length, take, drop};
+ghost use lib.ListN.{length, take};
 ghost use Rattle.framing.specs.Framing.{message};
 ghost use Rattle.wire.specs.Received.{binary};
 ghost use Rattle.text.specs.Line.{lineOf};
@@ -35,22 +35,6 @@ pub fn cut<'a>(kind: Kind, input: &'a [u8]) -> &'a [u8]
     framing::cut(kind, input)
 }
 
-// The first n bytes of s, or all.
-fn front<'a>(s: &'a [u8], n: usize) -> &'a [u8]
-    ensures { λ r. ⌜ now r ≡ take n (now (s .entry)) ⌝ }
-{
-    let k = octets::min(n, s.len());
-    &s[..k]
-}
-
-// What follows the first n bytes of s.
-fn tail<'a>(s: &'a [u8], n: usize) -> &'a [u8]
-    ensures { λ r. ⌜ now r ≡ drop n (now (s .entry)) ⌝ }
-{
-    let k = octets::min(n, s.len());
-    &s[k..]
-}
-
 // The refusal of a message that has no payload.
 fn refused(r: Refusal) -> Reading
     ensures { λ x. ⌜ x ≡ Reading.Command (Command.Refused r) 0 ⌝ }
@@ -65,7 +49,7 @@ fn read_binary(m: &[u8], skip: usize) -> Reading
     if m.len() == 0 {
         return refused(Refusal::Unknown);
     }
-    let p = tail(&m[1..], skip);
+    let p = octets::tail(&m[1..], skip);
     Reading::Command(command::read(m[0], p), p.len())
 }
 
@@ -73,7 +57,7 @@ fn read_binary(m: &[u8], skip: usize) -> Reading
 fn read_buffer(id: u8, buf: &[u8], len: usize) -> Reading
     ensures { λ r. ⌜ r ≡ Reading.Command (commandOf id (take len (now (buf .entry)))) len ⌝ }
 {
-    let p = front(buf, len);
+    let p = octets::front(buf, len);
     Reading::Command(command::read(id, p), len)
 }
 
@@ -141,9 +125,9 @@ pub fn payload<'a>(kind: Kind, message: &'a [u8], buf: &'a [u8], len: usize) -> 
 {
     let k = framing::kind_of(kind, message);
     match k {
-        Kind::Packets => front(tail(message, 1), len),
-        Kind::Stream => front(tail(message, 1), len),
-        Kind::Framed => front(tail(message, 3), len),
-        Kind::Text => front(buf, len),
+        Kind::Packets => octets::front(octets::tail(message, 1), len),
+        Kind::Stream => octets::front(octets::tail(message, 1), len),
+        Kind::Framed => octets::front(octets::tail(message, 3), len),
+        Kind::Text => octets::front(buf, len),
     }
 }

@@ -3,13 +3,14 @@ use borrow.Author.Needs.{needs}
 use native.Mathlib.Omega.{arith}
 use Prim.Native.Nat.{_-_}
 use lib.ListN.{length}
+use Rattle.text.specs.Fields.{quoted}
 use Rattle.text.proofs.ScanLaws.{Scanning, scan-start, scan-byte, scan-close, scan-bad, scan-length}
 use Rattle.text.proofs.ScanLaws.{quoted-end}
 use Rattle.text.proofs.fields.quoted_field.Statement.{statement}
 use Rattle.text.proofs.fields.quoted_field.Tie as tie
 
 abbrev Inv-loop : tie.InvT-loop
-Inv-loop line at buf₀ to i₀ n₀ nul₀ buf i n nul = Scanning line at buf₀ to buf i n nul
+Inv-loop line at buf₀ to i₀ n₀ nul₀ buf i n nul = Scanning quoted line at buf₀ to buf i n nul
 
 abbrev μ-loop : tie.MeasureT-loop
 μ-loop line at buf₀ to i₀ n₀ nul₀ buf i n nul = length line - i
@@ -40,7 +41,7 @@ quoted-field-spec =
     (tie.spec
     Inv-loop
     μ-loop
-    (λ c. scan-start _ _ _ _ (search needs))
+    (λ c. scan-start quoted _ _ _ _ (search needs))
     (λ c κs. search needs)
     (λ c. search needs)
     (λ c. omega (arith, c .before .before .before .before .before .before .loop .inv .short))

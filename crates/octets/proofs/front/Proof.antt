@@ -1,11 +1,11 @@
--- `wire::front` stops at the end.
+-- `octets::front` stops at the end.
 use borrow.Author.Needs.{needs}
 use mathlib.Core.Path.{sym}
 use native.Mathlib.Omega.{arith}
 use lib.Seq.{length-take-le}
-use Rattle.wire.proofs.Laws.{take-clipped}
-use Rattle.wire.proofs.front.Statement.{statement}
-use Rattle.wire.proofs.front.Tie as tie
+use Rattle.octets.proofs.Parts.{take-clipped}
+use Rattle.octets.proofs.front.Statement.{statement}
+use Rattle.octets.proofs.front.Tie as tie
 
 slice-aggregate-result : tie.Need-slice-aggregate-result
 slice-aggregate-result c =

@@ -1,8 +1,8 @@
--- `wire::tail` stops at the end.
+-- `octets::tail` stops at the end.
 use borrow.Author.Needs.{needs}
-use Rattle.wire.proofs.Laws.{drop-clipped}
-use Rattle.wire.proofs.tail.Statement.{statement}
-use Rattle.wire.proofs.tail.Tie as tie
+use Rattle.octets.proofs.Parts.{drop-clipped}
+use Rattle.octets.proofs.tail.Statement.{statement}
+use Rattle.octets.proofs.tail.Tie as tie
 
 returns : tie.Need-returns
 returns c =

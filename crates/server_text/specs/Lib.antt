@@ -1,0 +1,5 @@
+pub mod Strings
+pub mod Fields
+pub mod Lines
+pub mod Contracts
+mod Examples

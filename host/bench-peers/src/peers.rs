@@ -1,7 +1,7 @@
 //! How to start each server, and how its messages look. All payloads have one length, so that
 //! deliveries and answers have one length too and can be counted by bytes.
 
-use infod3_cli::Command as Infod3;
+use infod3_cli::{written, Command as Infod3, Wire};
 use infod3d::process::Process;
 use std::ffi::OsString;
 use std::path::PathBuf;
@@ -18,6 +18,11 @@ pub enum Until {
     Bytes(usize),
     /// An answer that ends with these bytes.
     EndsWith(&'static [u8]),
+}
+
+/// The frames of commands.
+fn frames(commands: &[Infod3<'_>]) -> Vec<u8> {
+    written(Wire::Framed, commands).expect("commands that no server refuses")
 }
 
 #[derive(Clone, Copy, PartialEq, Eq)]
@@ -127,13 +132,12 @@ impl Peer {
         let Protocol::Infod3(keys) = self.protocol else {
             return vec![];
         };
-        let mut frames = Vec::new();
-        for key in 0..keys {
-            let key = format!("other.{key:04}");
-            Infod3::Write(key.as_bytes(), b"before!!").append_to(&mut frames);
-        }
-        Infod3::Ping(b"").append_to(&mut frames);
-        vec![(frames, Until::Bytes(3))]
+        let keys: Vec<String> = (0..keys).map(|key| format!("other.{key:04}")).collect();
+        let writes = keys
+            .iter()
+            .map(|key| Infod3::Write(key.as_bytes(), b"before!!"));
+        let commands: Vec<Infod3> = writes.chain([Infod3::Ping(b"")]).collect();
+        vec![(frames(&commands), Until::Bytes(3))]
     }
 
     /// What a subscriber says, and what answers it.
@@ -141,10 +145,8 @@ impl Peer {
         let len = TOPIC.len();
         vec![match self.protocol {
             Protocol::Infod3(_) => {
-                let mut frames = Vec::new();
-                Infod3::Sub(TOPIC.as_bytes()).append_to(&mut frames);
-                Infod3::Ping(b"sub").append_to(&mut frames);
-                (frames, Until::EndsWith(b"\x82\x00\x03sub"))
+                let commands = [Infod3::Sub(TOPIC.as_bytes()), Infod3::Ping(b"sub")];
+                (frames(&commands), Until::EndsWith(b"\x82\x00\x03sub"))
             }
             Protocol::Redis => {
                 let text = format!("*2\r\n$9\r\nSUBSCRIBE\r\n${len}\r\n{TOPIC}\r\n");
@@ -169,11 +171,7 @@ impl Peer {
         let payload = format!("{number:0PAYLOAD$}");
         let len = TOPIC.len();
         match self.protocol {
-            Protocol::Infod3(_) => {
-                let mut frame = Vec::new();
-                Infod3::Write(TOPIC.as_bytes(), payload.as_bytes()).append_to(&mut frame);
-                frame
-            }
+            Protocol::Infod3(_) => frames(&[Infod3::Write(TOPIC.as_bytes(), payload.as_bytes())]),
             Protocol::Redis => {
                 format!("*3\r\n$7\r\nPUBLISH\r\n${len}\r\n{TOPIC}\r\n${PAYLOAD}\r\n{payload}\r\n")
                     .into()

@@ -6,11 +6,14 @@
 //! processor time. The numbers are medians over the batches; a ratio is the median of the
 //! ratios of neighbouring batches. Before and after each batch of the library, calls that end with
 //! the test of the memory are measured on the very same memory: what the test costs goes by where
-//! the memory lies, too. The first argument says when and where it is measured; the page goes to
+//! the memory lies, too. The client's side, which has no memory, has rows of its own beside plain
+//! Rust. The first argument says when and where it is measured; the page goes to
 //! the file that the second one names, if there is one.
 
 mod cases;
+mod client;
 mod clock;
+mod plain;
 mod report;
 mod sides;
 
@@ -108,15 +111,21 @@ fn main() {
         .iter()
         .map(|case| KEYS.map(|keys| Measured::new(case, keys)))
         .collect();
+    let mut client_rows = client::rows();
+    client_rows.iter().for_each(client::Row::agree);
     for _ in 0..ROUNDS {
         for (case, row) in cases.iter().zip(&mut all) {
             row.iter_mut().for_each(|measured| measured.round(case));
         }
+        client_rows.iter_mut().for_each(client::Row::round);
     }
     let costs = all.iter().map(|row| row.each_ref().map(Measured::cost));
     let rows: Vec<(Case, [Cost; 3])> = cases.into_iter().zip(costs).collect();
     for (case, costs) in &rows {
         println!("{}", report::line(case, costs));
+    }
+    for row in &client_rows {
+        println!("{}", report::client_line(row.name, row.cost()));
     }
     println!("measured in {:.1} s", begin.elapsed().as_secs_f64());
     let mut arguments = std::env::args_os().skip(1);
@@ -125,7 +134,7 @@ fn main() {
         .unwrap_or_else(|| "at an unknown time".into());
     println!("{}", measured.to_string_lossy());
     if let Some(path) = arguments.next() {
-        let page = report::page(&rows, &measured.to_string_lossy());
+        let page = report::page(&rows, &client_rows, &measured.to_string_lossy());
         std::fs::write(&path, page).expect("the report is written");
         println!("written to {}", path.to_string_lossy());
     }

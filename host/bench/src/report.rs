@@ -1,6 +1,7 @@
 //! The table, on the terminal and as a page.
 
 use crate::cases::Case;
+use crate::client;
 use crate::{Cost, BATCHES, KEYS, ROUNDS};
 use std::fmt::Write;
 
@@ -30,8 +31,17 @@ pub fn line(case: &Case, costs: &[Cost; 3]) -> String {
     line
 }
 
+/// A row of the client's side on the terminal.
+pub fn client_line(name: &str, cost: client::Cost) -> String {
+    let (library, plain) = (nanoseconds(cost.library), nanoseconds(cost.plain));
+    format!(
+        "{name:<38} | {library:>9} / {plain:>9} = {:>7.2}",
+        cost.ratio
+    )
+}
+
 /// The page; `measured` says when, from which commit and on which machine.
-pub fn page(rows: &[(Case, [Cost; 3])], measured: &str) -> String {
+pub fn page(rows: &[(Case, [Cost; 3])], client_rows: &[client::Row], measured: &str) -> String {
     let mut page = String::new();
     let batches = ROUNDS * (BATCHES - 1);
     let _ = writeln!(page, "# What the calls cost\n");
@@ -70,7 +80,34 @@ pub fn page(rows: &[(Case, [Cost; 3])], measured: &str) -> String {
     for (case, _) in rows {
         page.push_str(&item(&format!("**{}**: {}", case.name, case.text)));
     }
+    let costs = client_rows.iter().map(|row| (row, row.cost()));
+    client_side(&mut page, &costs.collect::<Vec<_>>());
     page
+}
+
+/// The calls of the client's side, and what their rows are.
+fn client_side(page: &mut String, rows: &[(&client::Row, client::Cost)]) {
+    let _ = writeln!(page, "\n## The client's side\n");
+    let _ = writeln!(
+        page,
+        "Commands written and messages read. These calls have no memory and no test of it. Beside \
+         them stands a plain\nimplementation in Rust that works on slices too and refuses the same \
+         (host/bench/src/plain.rs). More than twice its cost\nis bold.\n"
+    );
+    let _ = writeln!(page, "| Call | Library | Plain Rust | Multiple |");
+    let _ = writeln!(page, "|---|---|---|---|");
+    for (row, cost) in rows {
+        let (library, plain) = (nanoseconds(cost.library), nanoseconds(cost.plain));
+        let ratio = match cost.ratio {
+            ratio if ratio > 2.0 => format!("**{ratio:.1}×**"),
+            ratio => format!("{ratio:.1}×"),
+        };
+        let _ = writeln!(page, "| {} | {library} | {plain} | {ratio} |", row.name);
+    }
+    page.push('\n');
+    for (row, _) in rows {
+        page.push_str(&item(&format!("**{}**: {}", row.name, row.text)));
+    }
 }
 
 /// An item of a list, in lines of at most 120 bytes.
@@ -137,8 +174,29 @@ mod tests {
 
     #[test]
     fn the_page_says_when_it_was_measured() {
-        let page = page(&crate::one_row(), "2026-01-31, commit abc1234");
+        let page = page(&crate::one_row(), &[], "2026-01-31, commit abc1234");
         assert!(page.contains("All figures were measured 2026-01-31, commit abc1234."));
         assert!(page.contains("| 1,234 (2.0×) |"), "{page}");
+    }
+
+    #[test]
+    fn the_client_s_side_has_a_table() {
+        let cost = |ratio| client::Cost {
+            library: 1234.0,
+            plain: 617.0,
+            ratio,
+        };
+        let rows = client::rows();
+        let mut page = String::new();
+        client_side(&mut page, &[(&rows[0], cost(2.0)), (&rows[2], cost(2.5))]);
+        let first = "| write WRITE, packet | 1,234 | 617 | 2.0× |";
+        let second = "| write WRITE, line | 1,234 | 617 | **2.5×** |";
+        assert!(page.contains(first) && page.contains(second), "{page}");
+        assert!(page.contains("- **write WRITE, line**: The same as text"));
+        assert!(page.lines().all(|line| line.len() <= 120), "{page}");
+        assert_eq!(
+            client_line(rows[0].name, cost(2.0)),
+            format!("{:<38} |     1,234 /       617 =    2.00", rows[0].name)
+        );
     }
 }

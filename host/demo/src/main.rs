@@ -44,7 +44,7 @@ impl Site {
         self.connection.send(Command::Ping(b"shown"))?;
         loop {
             match self.connection.receive(Some(PATIENCE))? {
-                Message::Info(key, value) => self.info(&key, value.as_deref()),
+                Message::Info { key, value } => self.info(&key, value.as_deref()),
                 Message::Pong(_) => return Ok(()),
                 _ => {}
             }

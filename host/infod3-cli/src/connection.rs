@@ -1,9 +1,9 @@
 //! A connection to a server, over TCP or a Unix socket.
 
 use crate::address::{connect_tcp, Address};
-use crate::message::{Command, Message};
 use crate::sys::{self, PollFd, POLLIN, POLLOUT};
 use crate::trouble::Trouble;
+use infod3::client::{write, CodecError, Command, Message, Reader, Wire};
 use std::io::{self, Read, Write};
 use std::net::{Shutdown, TcpStream};
 use std::os::fd::{AsFd, BorrowedFd};
@@ -52,15 +52,25 @@ impl AsFd for Stream {
     }
 }
 
+/// The bytes of commands. Where one of them is refused there are none, so that none is sent.
+pub fn written(wire: Wire, commands: &[Command<'_>]) -> Result<Vec<u8>, Trouble> {
+    let mut bytes = Vec::new();
+    for command in commands {
+        let written = write(wire, command, &mut bytes);
+        written.map_err(|error| Trouble::of_command(command, error))?;
+    }
+    Ok(bytes)
+}
+
 /// A connection.
 #[derive(Debug)]
 pub struct Connection {
     stream: Stream,
+    wire: Wire,
     /// How long sending may take.
     timeout: Duration,
     /// What is received and not given out yet.
-    bytes: Vec<u8>,
-    start: usize,
+    reader: Reader,
     room: Vec<u8>,
     /// The server has closed.
     closed: bool,
@@ -73,22 +83,32 @@ impl AsFd for Connection {
 }
 
 impl Connection {
-    /// Connects within `timeout`, which then holds for each sending too.
+    /// Connects within `timeout`, which then holds for each sending too, and speaks framed bytes.
     pub fn open(address: &Address, timeout: Duration) -> Result<Connection, Trouble> {
+        Connection::open_in(Wire::Framed, address, timeout)
+    }
+
+    /// Connects as [`Connection::open`] does, and speaks framed bytes or text lines. The socket is
+    /// a stream, which keeps no packets apart.
+    pub fn open_in(
+        wire: Wire,
+        address: &Address,
+        timeout: Duration,
+    ) -> Result<Connection, Trouble> {
         let stream = connect(address, timeout);
         let wrong = |error: io::Error| match error.kind() {
             io::ErrorKind::TimedOut => Trouble::Connect(format!("{address}: no answer in time")),
             _ => Trouble::Connect(format!("{address}: {error}")),
         };
-        Ok(Connection::over(stream.map_err(wrong)?, timeout))
+        Ok(Connection::over(stream.map_err(wrong)?, wire, timeout))
     }
 
-    fn over(stream: Stream, timeout: Duration) -> Connection {
+    fn over(stream: Stream, wire: Wire, timeout: Duration) -> Connection {
         Connection {
             stream,
+            wire,
             timeout,
-            bytes: Vec::new(),
-            start: 0,
+            reader: Reader::new(wire),
             room: vec![0; 65_536],
             closed: false,
         }
@@ -101,23 +121,25 @@ impl Connection {
             Stream::Tcp(stream) => Stream::Tcp(stream.try_clone()?),
             Stream::Unix(stream) => Stream::Unix(stream.try_clone()?),
         };
-        Ok(Connection::over(stream, self.timeout))
+        Ok(Connection::over(stream, self.wire, self.timeout))
     }
 
-    /// Sends a command.
+    /// Sends a command, unless it is refused.
     pub fn send(&mut self, command: Command<'_>) -> Result<(), Trouble> {
         self.send_all(&[command])
     }
 
-    /// Sends commands together. Where the server takes them too slowly the connection is of no
-    /// use any more, since a part of them may be sent.
+    /// Sends commands together, or none of them where one is refused.
     pub fn send_all(&mut self, commands: &[Command<'_>]) -> Result<(), Trouble> {
-        let mut frames = Vec::new();
-        if !commands.iter().all(|c| c.append_to(&mut frames)) {
-            return Err(Trouble::TooLong);
-        }
+        let bytes = written(self.wire, commands)?;
+        self.send_bytes(&bytes)
+    }
+
+    /// Sends commands that are [`written`]. Where the server takes them too slowly the connection
+    /// is of no use any more, since a part of them may be sent.
+    pub fn send_bytes(&mut self, bytes: &[u8]) -> Result<(), Trouble> {
         let until = Instant::now().checked_add(self.timeout);
-        let mut rest = frames.as_slice();
+        let mut rest = bytes;
         while !rest.is_empty() {
             match self.send_some(rest) {
                 Ok(0) => self.wait(POLLOUT, until)?,
@@ -129,9 +151,9 @@ impl Connection {
     }
 
     /// Sends as many of the bytes as the socket takes now, and gives their number. The bytes are
-    /// frames; the rest of them has to follow.
-    pub fn send_some(&mut self, frames: &[u8]) -> io::Result<usize> {
-        match self.stream.write(frames) {
+    /// commands that are [`written`]; the rest of them has to follow.
+    pub fn send_some(&mut self, bytes: &[u8]) -> io::Result<usize> {
+        match self.stream.write(bytes) {
             Err(error) if is_no_error(&error) => Ok(0),
             written => written,
         }
@@ -144,7 +166,7 @@ impl Connection {
 
     /// Whether the server has closed and all that it sent is given out.
     pub fn has_ended(&self) -> bool {
-        self.closed && self.start == self.bytes.len()
+        self.closed && self.reader.pending().is_empty()
     }
 
     /// Where sending fails because the server has closed, what it said last may still be there to
@@ -177,7 +199,7 @@ impl Connection {
 
     /// The next message that is here already.
     fn received(&mut self) -> Result<Option<Message>, Trouble> {
-        let bytes = &self.bytes[self.start..];
+        let bytes = self.reader.pending();
         if bytes.first() == Some(&b'#') {
             return match bytes.iter().position(|&b| b == b'\n') {
                 Some(end) => Err(Trouble::of_line(&bytes[..end])),
@@ -185,21 +207,19 @@ impl Connection {
                 None => Ok(None),
             };
         }
-        let Some(len) = Message::whole(bytes) else {
-            return Ok(None);
-        };
-        let message = Message::read(&bytes[..len]);
-        self.start += len;
-        match message {
-            Some(Message::Error(number, text)) => Err(Trouble::Error(number, text)),
-            Some(message) => Ok(Some(message)),
-            None => Err(Trouble::Lost("the server sent no infod3".to_owned())),
+        match self.reader.next_message() {
+            Ok(Some(Message::Error { number, text })) => Err(Trouble::Error(number, text.to_vec())),
+            Ok(message) => Ok(message.map(Message::into_owned)),
+            Err(CodecError::Refused(_)) => {
+                Err(Trouble::Lost("the server sent no infod3".to_owned()))
+            }
+            Err(error) => Err(Trouble::Lost(error.to_string())),
         }
     }
 
     /// What a line of the server itself means that was cut off by the connection's end.
     fn unfinished_line(&self) -> Option<Trouble> {
-        let bytes = &self.bytes[self.start..];
+        let bytes = self.reader.pending();
         bytes.starts_with(b"#").then(|| Trouble::of_line(bytes))
     }
 
@@ -211,9 +231,7 @@ impl Connection {
                 Err(Trouble::Lost("closed by the server".to_owned()))
             }
             Ok(n) => {
-                self.bytes.drain(..self.start);
-                self.start = 0;
-                self.bytes.extend_from_slice(&self.room[..n]);
+                self.reader.feed(&self.room[..n]);
                 Ok(true)
             }
             Err(error) if is_no_error(&error) => Ok(false),

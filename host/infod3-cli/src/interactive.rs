@@ -7,7 +7,7 @@ use crate::task::{Line, LINES};
 use crate::{End, UNCOMMITTED};
 use infod3_cli::quote::fields;
 use infod3_cli::sys::{self, PollFd, POLLIN, POLLOUT};
-use infod3_cli::{Command, Connection, Message, Trouble};
+use infod3_cli::{written, Command, Connection, Message, Trouble, Wire};
 use std::fs::File;
 use std::io::{self, IsTerminal, Read, Write};
 use std::os::fd::AsFd;
@@ -18,7 +18,7 @@ use std::time::Duration;
 const FIRST: &[u8] = b"\0infod3 begins\0";
 /// The identifier of the PING that ends the interactive mode.
 const LAST: &[u8] = b"\0infod3 ends\0";
-/// Frames that wait to be sent, in bytes, beyond which no further line is read.
+/// Bytes that wait to be sent, beyond which no further line is read.
 const MUCH: usize = 65_536;
 
 /// The longest line. A command of 65,535 bytes has a quarter of a million in octal.
@@ -29,6 +29,7 @@ const MANY: usize = 1024;
 /// One loop over standard input and the connection, so that neither waits for the other.
 struct Session<'a> {
     connection: Connection,
+    wire: Wire,
     output: &'a mut Output,
     form: Form,
     timeout: Duration,
@@ -39,8 +40,8 @@ struct Session<'a> {
     input: Vec<u8>,
     /// No more is read: the input has ended, or `quit` was said.
     ended: bool,
-    /// Frames that are not sent.
-    frames: Vec<u8>,
+    /// The bytes of commands that are not sent.
+    unsent: Vec<u8>,
     /// There may be messages that are received and not shown.
     more: bool,
     /// Why nothing more can be sent; what the server said last is still read.
@@ -55,11 +56,12 @@ struct Session<'a> {
 
 /// Sends the lines of standard input and shows messages until the input ends.
 pub fn run(options: &Options, output: &mut Output) -> Result<End, End> {
-    let connection = Connection::open(&options.address, options.timeout)?;
+    let connection = crate::connect(options)?;
     let stdin = io::stdin().as_fd().try_clone_to_owned();
     let stdin = stdin.map_err(|error| End::Usage(format!("standard input: {error}")))?;
     let mut session = Session {
         connection,
+        wire: options.wire,
         output,
         form: options.form.unwrap_or(Form::Text),
         timeout: options.timeout,
@@ -67,14 +69,14 @@ pub fn run(options: &Options, output: &mut Output) -> Result<End, End> {
         terminal: io::stdin().is_terminal(),
         input: Vec::new(),
         ended: false,
-        frames: Vec::new(),
+        unsent: Vec::new(),
         more: false,
         broken: None,
         open: false,
         parted: false,
         wrong: 0,
     };
-    Command::Ping(FIRST).append_to(&mut session.frames);
+    session.ping(FIRST);
     if session.terminal {
         say(format_args!(
             "connected to {}; help shows the commands",
@@ -104,8 +106,8 @@ impl Session<'_> {
     /// Waits until something can be done and does it; false at the end.
     fn turn(&mut self) -> Result<bool, End> {
         self.part();
-        let reads = !self.ended && self.frames.len() < MUCH;
-        let sends = !self.frames.is_empty();
+        let reads = !self.ended && self.unsent.len() < MUCH;
+        let sends = !self.unsent.is_empty();
         let events = if sends { POLLIN | POLLOUT } else { POLLIN };
         let mut fds = [
             PollFd::new(Some(self.connection.as_fd()), events),
@@ -135,14 +137,14 @@ impl Session<'_> {
 
     /// Sends what the socket takes.
     fn send(&mut self) {
-        if self.frames.is_empty() {
+        if self.unsent.is_empty() {
             return;
         }
-        match self.connection.send_some(&self.frames) {
-            Ok(n) => drop(self.frames.drain(..n)),
+        match self.connection.send_some(&self.unsent) {
+            Ok(n) => drop(self.unsent.drain(..n)),
             Err(error) => {
                 self.broken = Some(Trouble::Lost(error.to_string()));
-                self.frames.clear();
+                self.unsent.clear();
                 self.ended = true;
             }
         }
@@ -151,7 +153,7 @@ impl Session<'_> {
     /// Closes the own half of the connection when all is sent, if a transaction is open: it would
     /// record the last PING.
     fn part(&mut self) {
-        let all_sent = self.ended && self.frames.is_empty() && self.broken.is_none();
+        let all_sent = self.ended && self.unsent.is_empty() && self.broken.is_none();
         if all_sent && self.open && !self.parted {
             self.parted = true;
             if let Err(error) = self.connection.end_sending() {
@@ -228,16 +230,21 @@ impl Session<'_> {
     /// Takes no further line. The PONG of the last PING comes after the answers of all lines.
     fn end(&mut self) {
         if !self.ended && !self.open {
-            Command::Ping(LAST).append_to(&mut self.frames);
+            self.ping(LAST);
         }
         self.ended = true;
     }
 
-    /// Queues a command; the error is one line.
+    /// Queues a PING of the program itself, which is never refused.
+    fn ping(&mut self, id: &[u8]) {
+        let ping = written(self.wire, &[Command::Ping(id)]);
+        self.unsent.extend(ping.unwrap_or_default());
+    }
+
+    /// Queues a command, unless it is refused; the error is one line.
     fn queue(&mut self, command: Command<'_>) -> Result<(), String> {
-        if !command.append_to(&mut self.frames) {
-            return Err(Trouble::TooLong.to_string());
-        }
+        let bytes = written(self.wire, &[command]).map_err(|trouble| trouble.to_string())?;
+        self.unsent.extend(bytes);
         match command {
             Command::Begin => self.open = true,
             Command::Commit => self.open = false,

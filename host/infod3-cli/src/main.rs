@@ -10,7 +10,7 @@ mod show;
 mod task;
 mod watch;
 
-use infod3_cli::{Command, Connection, Message, Trouble};
+use infod3_cli::{written, Command, Connection, Message, Trouble, Wire};
 use options::{Options, Request};
 use output::{say, Output};
 use page::PAGE;
@@ -59,7 +59,7 @@ impl End {
             End::Output(error) => (6, format!("cannot write to standard output: {error}")),
             End::Trouble(trouble) => {
                 let status = match trouble {
-                    Trouble::TooLong => 2,
+                    Trouble::NotSent(_) => 2,
                     Trouble::Connect(_) => 3,
                     Trouble::Error(..) | Trouble::Refused(_) => 4,
                     Trouble::Lost(_) | Trouble::Late => 5,
@@ -98,44 +98,64 @@ fn perform(options: &Options, output: &mut Output) -> Result<End, End> {
     match Task::of(&options.words, options.stdin).map_err(End::Usage)? {
         Task::Read(key) => read(options, key, output),
         Task::Change(command) => change(options, command),
-        Task::WriteInput(key) => {
-            let mut value = Vec::new();
-            let read = io::stdin().take(65_536).read_to_end(&mut value);
-            read.map_err(|error| End::Usage(format!("standard input: {error}")))?;
-            change(options, Command::Write(key, &value))
-        }
-        Task::Watch(patterns) => Watch::new(options, patterns, output).run(),
+        Task::WriteInput(key) => change(options, Command::Write(key, &input()?)),
+        Task::Watch(patterns) => Watch::new(options, patterns, output)?.run(),
         Task::Ping => {
             connect(options)?.synchronise(options.timeout)?;
             output.write(b"pong\n")?;
             Ok(End::Done)
         }
+        Task::Print(command) => print(command, output),
+        Task::PrintInput(key) => print(Command::Write(key, &input()?), output),
         Task::Lines => interactive::run(options, output),
     }
 }
 
+/// All bytes of standard input, or more than a command holds.
+fn input() -> Result<Vec<u8>, End> {
+    let mut bytes = Vec::new();
+    let read = io::stdin().take(65_536).read_to_end(&mut bytes);
+    read.map_err(|error| End::Usage(format!("standard input: {error}")))?;
+    Ok(bytes)
+}
+
+/// Prints the text line of a command.
+fn print(command: Command<'_>, output: &mut Output) -> Result<End, End> {
+    output.write(&written(Wire::Text, &[command])?)?;
+    Ok(End::Done)
+}
+
 fn connect(options: &Options) -> Result<Connection, Trouble> {
-    Connection::open(&options.address, options.timeout)
+    Connection::open_in(options.wire, &options.address, options.timeout)
 }
 
 fn read(options: &Options, key: &[u8], output: &mut Output) -> Result<End, End> {
+    let command = written(options.wire, &[Command::Read(key)])?;
     let mut connection = connect(options)?;
-    connection.send(Command::Read(key))?;
+    connection.send_bytes(&command)?;
     match connection.receive(Some(options.timeout))? {
-        Message::Info(found, Some(value)) if found == key => {
+        Message::Info {
+            key: found,
+            value: Some(value),
+        } if found == key => {
             let form = options.form.unwrap_or(Form::Fields);
             output.write(&show::value(form, key, &value))?;
             Ok(End::Done)
         }
-        Message::Info(found, None) if found == key => Ok(End::Absent),
+        Message::Info {
+            key: found,
+            value: None,
+        } if found == key => Ok(End::Absent),
         _ => Err(Trouble::Lost("another answer than the key's INFO".to_owned()).into()),
     }
 }
 
-/// Sends a command that has no answer, and waits until it is done.
+/// Sends a command that has no answer, and waits until it is done. One that is refused is not
+/// worth a connection.
 fn change(options: &Options, command: Command<'_>) -> Result<End, End> {
+    let command = written(options.wire, &[command])?;
     let mut connection = connect(options)?;
-    connection.send(command)?;
+    connection.send_bytes(&command)?;
     connection.synchronise(options.timeout)?;
     Ok(End::Done)
 }

@@ -1,7 +1,8 @@
 //! The options of the program, checked.
 
 use crate::show::Form;
-use infod3_cli::Address;
+use infod3_cli::quote::field;
+use infod3_cli::{Address, Wire};
 use std::ffi::{OsStr, OsString};
 use std::os::unix::ffi::{OsStrExt, OsStringExt};
 use std::time::Duration;
@@ -14,6 +15,8 @@ const LARGEST: u64 = 1_000_000_000;
 pub struct Options {
     /// Where the server is.
     pub address: Address,
+    /// How commands and messages go to the server and back.
+    pub wire: Wire,
     /// How keys and values are shown, if it is said.
     pub form: Option<Form>,
     /// The number of lines after which watching ends.
@@ -52,6 +55,7 @@ pub fn parse(
     let server = server.filter(|server| !server.is_empty());
     let mut options = Options {
         address: Address::read(server.as_deref().unwrap_or(OsStr::new("127.0.0.1:7070"))),
+        wire: Wire::Framed,
         form: None,
         count: None,
         timeout: Duration::from_secs(10),
@@ -124,6 +128,16 @@ impl<I: Iterator<Item = OsString>> Given<'_, I> {
         self.number().map(Duration::from_secs)
     }
 
+    fn wire(self) -> Result<Wire, String> {
+        let name = self.name.clone();
+        let text = self.value()?;
+        match text.as_bytes() {
+            b"framed" => Ok(Wire::Framed),
+            b"text" => Ok(Wire::Text),
+            other => Err(format!("{name} wants framed or text, not {}", field(other))),
+        }
+    }
+
     /// That an option without a value has none.
     fn alone(self) -> Result<(), String> {
         match self.value {
@@ -145,6 +159,7 @@ impl Options {
             "--man" => return given.alone().map(|()| Some(Request::Man)),
             "--tcp" => self.address = Address::Tcp(given.value()?.to_string_lossy().into_owned()),
             "--unix" => self.address = Address::Unix(given.value()?.into()),
+            "--wire" => self.wire = given.wire()?,
             "--text" => self.show_as(Form::Text, given)?,
             "--raw" => self.show_as(Form::Raw, given)?,
             "--json" => self.show_as(Form::Json, given)?,
@@ -174,7 +189,9 @@ impl Options {
     /// That the address is one, and that every option belongs to the command.
     fn check(&self) -> Result<(), String> {
         self.address.check()?;
-        let command = self.words.first().map(Vec::as_slice);
+        // What stands behind `line` is a command too.
+        let is_line = self.words.first().is_some_and(|word| word == b"line");
+        let command = self.words.get(usize::from(is_line)).map(Vec::as_slice);
         let table: [(&str, bool, &[u8]); 4] = [
             ("--stdin", self.stdin, b"write"),
             ("--once", self.once, b"watch"),
@@ -217,6 +234,15 @@ mod tests {
             options("--unix=a=b ping").address,
             Address::Unix("a=b".into())
         );
+        for (line, wire) in [
+            ("ping", Wire::Framed),
+            ("--wire framed ping", Wire::Framed),
+            ("--wire=text ping", Wire::Text),
+            ("ping --wire text", Wire::Text),
+        ] {
+            assert_eq!(options(line).wire, wire, "{line}");
+        }
+        assert!(options("line write --stdin k").stdin);
     }
 
     #[test]
@@ -267,6 +293,12 @@ mod tests {
                 "--timeout wants a number from 1 to 1000000000, not 1000000001",
             ),
             ("--stdin read k", "--stdin is for write"),
+            ("--stdin line read k", "--stdin is for write"),
+            ("--stdin line", "--stdin is for write"),
+            ("--once line ping", "--once is for watch"),
+            ("--wire", "--wire wants a value"),
+            ("--wire packets", "--wire wants framed or text, not packets"),
+            ("--wire=", "--wire wants framed or text, not \"\""),
             ("--once", "--once is for watch"),
         ];
         for (line, error) in table {

@@ -24,14 +24,19 @@ pub const PAGE: Page = Page {
                      is lost",
                 ),
                 ("ping", "prints pong when the server answers"),
+                (
+                    "line COMMAND ..",
+                    "prints the text line of a command, quoted as the protocol wants it, and \
+                     connects to no server",
+                ),
             ])],
         ),
         Part::new(
             "without a command",
             &[Block::Text(
                 "It takes commands from the lines of standard input: read, write, delete, sub, \
-                 unsub, begin, commit, ping or one of their first letters, and hello, help, quit. \
-                 Fields are apart by spaces; one with spaces in it is quoted, with \\ooo \
+                 unsub, begin, commit, ping or one of their first letters, and hello [VERSION \
+                 [TEXT]], help, quit. Fields are apart by spaces; one with spaces in it is quoted, with \\ooo \
                  for a byte in octal. Messages are shown as they come, keys and values in quotes. A \
                  line that is wrong is said and not sent; unless the lines come from a terminal, the \
                  status at the end is then 2. \
@@ -41,10 +46,32 @@ pub const PAGE: Page = Page {
             )],
         ),
         Part::new(
+            "text lines",
+            &[
+                Block::Text(
+                    "line prints what a program of your own, a script or a test has to send in text: \
+                     read KEY, write KEY VALUE or write --stdin KEY, delete KEY (a WRITE without a \
+                     value), sub PATTERN, unsub PATTERN, begin, commit, ping [TEXT] and hello \
+                     [VERSION [TEXT]]. A command that a server would refuse is said on standard error \
+                     and not printed.",
+                ),
+                Block::Example(
+                    "$ infod3 line write site.7.note 'say \"stop\"'\n\
+                     WRITE \"site.7.note\" \"say \\042stop\\042\"",
+                ),
+            ],
+        ),
+        Part::new(
             "options",
             &[Block::Terms(&[
                 ("--tcp ADDR:PORT", "the server's TCP port; 127.0.0.1:7070 if nothing is said"),
                 ("--unix PATH", "the server's Unix socket"),
+                (
+                    "--wire framed|text",
+                    "speaks with the server in binary frames or in text lines, which other tools can \
+                     show and relays of lines pass on; framed if not given. What is printed is the \
+                     same",
+                ),
                 ("--timeout SECONDS", "how long connecting, sending and each answer may take; 10 if not given"),
                 ("--text", "shows keys and values in quotes always"),
                 ("--raw", "shows their bytes as they are"),
@@ -114,7 +141,11 @@ pub const PAGE: Page = Page {
             &[Block::Terms(&[
                 ("0", "done, or nobody reads the output any more"),
                 ("1", "read: the key is absent"),
-                ("2", "wrong usage"),
+                (
+                    "2",
+                    "wrong usage, or a command that every server refuses, as with a wrong PATTERN: it \
+                     is not sent",
+                ),
                 ("3", "cannot connect, or the server has no free slot"),
                 ("4", "the server refused: its ERROR or its line is on standard error"),
                 ("5", "the connection was lost, or no right answer came in time"),
@@ -134,6 +165,11 @@ pub const PAGE: Page = Page {
                 Block::Text("A value in a script, and a file as a value:"),
                 Block::Example(
                     "state=$(infod3 --raw read site.7.state)\ninfod3 write --stdin site.7.plan <plan.txt",
+                ),
+                Block::Text("The text line of a command, and text lines over the wire:"),
+                Block::Example(
+                    "infod3 line write site.7.note 'say \"stop\"' | nc -N 127.0.0.1 7070\n\
+                     infod3 --wire text read site.7.note",
                 ),
                 Block::Text("Two keys changed in one step:"),
                 Block::Example(

@@ -66,15 +66,15 @@ pub fn message(form: Form, message: &Message) -> Vec<u8> {
         line
     };
     match message {
-        Message::Info(key, value) => info(form, key, value.as_deref()),
+        Message::Info { key, value } => info(form, key, value.as_deref()),
         Message::Pong(id) if form == Form::Json => object(&[json::member("pong", id)]),
         Message::Pong(id) => said("pong ", id),
-        Message::Version(version, text) if form == Form::Json => {
+        Message::Version { version, text } if form == Form::Json => {
             let number = format!("\"version\":{version}");
             object(&[number, json::member("text", text)])
         }
-        Message::Version(version, text) => said(&format!("version {version} "), text),
-        Message::Error(number, text) => said(&format!("ERROR {number} "), text),
+        Message::Version { version, text } => said(&format!("version {version} "), text),
+        Message::Error { number, text } => said(&format!("ERROR {number} "), text),
     }
 }
 

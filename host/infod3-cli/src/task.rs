@@ -16,6 +16,10 @@ pub enum Task<'a> {
     Watch(&'a [Vec<u8>]),
     /// See whether the server answers.
     Ping,
+    /// Print the text line of a command.
+    Print(Command<'a>),
+    /// Print that of a WRITE whose value are the bytes of standard input.
+    PrintInput(&'a [u8]),
     /// Take commands from the lines of standard input.
     Lines,
 }
@@ -28,20 +32,49 @@ impl Task<'_> {
         };
         match (name.as_slice(), operands) {
             (b"read", [key]) => Ok(Task::Read(key)),
-            (b"write", [key]) if stdin => Ok(Task::WriteInput(key)),
-            (b"write", [key, value]) if !stdin => Ok(Task::Change(Command::Write(key, value))),
+            (b"write", _) => Ok(match key_and_value(operands, stdin)? {
+                (key, Some(value)) => Task::Change(Command::Write(key, value)),
+                (key, None) => Task::WriteInput(key),
+            }),
             (b"delete", [key]) => Ok(Task::Change(Command::Delete(key))),
             (b"watch", patterns @ [_, ..]) => Ok(Task::Watch(patterns)),
             (b"ping", []) => Ok(Task::Ping),
-            (b"write", [_, _, ..]) if stdin => Err("write --stdin wants no VALUE".to_owned()),
-            (b"write", []) if stdin => Err("write --stdin wants a KEY".to_owned()),
-            (b"write", [_]) => Err("write wants a VALUE (or --stdin)".to_owned()),
+            (b"line", _) => line(operands, stdin),
             (b"read" | b"delete", _) => Err(wrong(name, operands, &["KEY"])),
-            (b"write", _) => Err(wrong(name, operands, &["KEY", "VALUE"])),
             (b"watch", _) => Err(wrong(name, operands, &["PATTERN"])),
             (b"ping", _) => Err(wrong(name, operands, &[])),
-            _ => Err(unknown(name, "read, write, delete, watch and ping")),
+            _ => Err(unknown(name, "read, write, delete, watch, ping and line")),
         }
+    }
+}
+
+/// The key of a write and its value, or none where standard input has it.
+fn key_and_value(operands: &[Vec<u8>], stdin: bool) -> Result<(&[u8], Option<&[u8]>), String> {
+    match operands {
+        [key] if stdin => Ok((key, None)),
+        [key, value] if !stdin => Ok((key, Some(value))),
+        [_, _, ..] if stdin => Err("write --stdin wants no VALUE".to_owned()),
+        [] if stdin => Err("write --stdin wants a KEY".to_owned()),
+        [_] => Err("write wants a VALUE (or --stdin)".to_owned()),
+        _ => Err(wrong(b"write", operands, &["KEY", "VALUE"])),
+    }
+}
+
+/// The command whose text line is to be printed, in the words of a line of the interactive mode.
+fn line(words: &[Vec<u8>], stdin: bool) -> Result<Task<'_>, String> {
+    let Some((name, operands)) = words.split_first() else {
+        return Err("line wants a COMMAND".to_owned());
+    };
+    match known(name) {
+        None | Some(("help" | "quit", _)) => Err(unknown(name, COMMANDS)),
+        Some(("write", _)) => Ok(match key_and_value(operands, stdin)? {
+            (key, Some(value)) => Task::Print(Command::Write(key, value)),
+            (key, None) => Task::PrintInput(key),
+        }),
+        Some(_) => match Line::of(words)? {
+            Line::Send(command) => Ok(Task::Print(command)),
+            Line::Empty | Line::Help | Line::Quit => Err(unknown(name, COMMANDS)),
+        },
     }
 }
 
@@ -61,7 +94,7 @@ pub enum Line<'a> {
 /// The list of the interactive mode's commands.
 pub const LINES: &str = "\
 read KEY, write KEY VALUE, delete KEY, sub PATTERN, unsub PATTERN, begin, commit, ping [TEXT] or
-one of their first letters; hello, help, quit
+one of their first letters; hello [VERSION [TEXT]], help, quit
 ";
 
 impl Line<'_> {
@@ -70,12 +103,7 @@ impl Line<'_> {
         let Some((name, operands)) = fields.split_first() else {
             return Ok(Line::Empty);
         };
-        let (word, wanted) = known(name).ok_or_else(|| unknown(name, NAMES))?;
-        // In a frame the first NUL is where the value begins.
-        let nul = operands.first().is_some_and(|operand| operand.contains(&0));
-        if nul && wanted.first() == Some(&"KEY") {
-            return Err("a KEY holds no NUL".to_owned());
-        }
+        let (word, wanted) = known(name).ok_or_else(|| unknown(name, WORDS))?;
         let command = match (word, operands) {
             ("read", [key]) => Command::Read(key),
             ("write", [key, value]) => Command::Write(key, value),
@@ -86,7 +114,9 @@ impl Line<'_> {
             ("commit", []) => Command::Commit,
             ("ping", []) => Command::Ping(b""),
             ("ping", [text]) => Command::Ping(text),
-            ("hello", []) => Command::Hello,
+            ("hello", []) => hello(b"0", b"")?,
+            ("hello", [version]) => hello(version, b"")?,
+            ("hello", [version, text]) => hello(version, text)?,
             ("help", []) => return Ok(Line::Help),
             ("quit", []) => return Ok(Line::Quit),
             _ => return Err(wrong(name, operands, wanted)),
@@ -106,14 +136,29 @@ fn known(name: &[u8]) -> Option<(&'static str, &'static [&'static str])> {
         b"begin" | b"b" => ("begin", &[]),
         b"commit" | b"c" => ("commit", &[]),
         b"ping" | b"p" => ("ping", &["TEXT"]),
-        b"hello" => ("hello", &[]),
+        b"hello" => ("hello", &["VERSION", "TEXT"]),
         b"help" | b"h" | b"?" => ("help", &[]),
         b"quit" | b"q" | b"exit" => ("quit", &[]),
         _ => return None,
     })
 }
 
-const NAMES: &str = "read, write, delete, sub, unsub, begin, commit, ping, hello, help and quit";
+/// What a line may begin with.
+const WORDS: &str = "read, write, delete, sub, unsub, begin, commit, ping, hello, help and quit";
+/// Those of them that are commands.
+const COMMANDS: &str = "read, write, delete, sub, unsub, begin, commit, ping and hello";
+
+fn hello<'a>(version: &[u8], text: &'a [u8]) -> Result<Command<'a>, String> {
+    let digits = std::str::from_utf8(version).ok();
+    let digits = digits.filter(|text| text.bytes().all(|b| b.is_ascii_digit()));
+    match digits.and_then(|digits| digits.parse().ok()) {
+        Some(version) => Ok(Command::Hello { version, text }),
+        None => Err(format!(
+            "hello wants a VERSION from 0 to 255, not {}",
+            field(version)
+        )),
+    }
+}
 
 fn unknown(name: &[u8], names: &str) -> String {
     format!("unknown command {}; commands are {names}", field(name))
@@ -164,7 +209,20 @@ mod tests {
             ("ping x", "ping wants nothing behind it, not x"),
             (
                 "reed k",
-                "unknown command reed; commands are read, write, delete, watch and ping",
+                "unknown command reed; commands are read, write, delete, watch, ping and line",
+            ),
+            ("line", "line wants a COMMAND"),
+            ("line write k", "write wants a VALUE (or --stdin)"),
+            ("line read", "read wants a KEY"),
+            ("line begin x", "begin wants nothing behind it, not x"),
+            (
+                "line hello 256",
+                "hello wants a VERSION from 0 to 255, not 256",
+            ),
+            (
+                "line quit",
+                "unknown command quit; commands are read, write, delete, sub, unsub, begin, \
+                 commit, ping and hello",
             ),
         ];
         for (line, error) in table {
@@ -186,6 +244,11 @@ mod tests {
             ("sub", "sub wants a PATTERN"),
             ("ping a b", "ping wants a TEXT alone; b is too much"),
             ("commit now", "commit wants nothing behind it, not now"),
+            (
+                "hello 1 me too",
+                "hello wants a VERSION and a TEXT alone; too is too much",
+            ),
+            ("hello +1", "hello wants a VERSION from 0 to 255, not +1"),
         ];
         for (line, error) in table {
             assert_eq!(Line::of(&words(line)), Err(error.to_owned()));

@@ -4,7 +4,7 @@ use crate::options::Options;
 use crate::output::{say, Output};
 use crate::show::{self, Form};
 use crate::End;
-use infod3_cli::{Command, Connection, Message, Trouble};
+use infod3_cli::{written, Command, Connection, Message, Trouble};
 use std::collections::BTreeSet;
 use std::os::fd::AsFd;
 use std::time::{Duration, Instant};
@@ -25,7 +25,8 @@ const SUBSCRIBED: &[u8] = b"subscribed";
 /// What is known of the keys over all connections.
 pub struct Watch<'a> {
     options: &'a Options,
-    patterns: &'a [Vec<u8>],
+    /// The SUB of each pattern and the PING behind them, as they are sent.
+    subscription: Vec<u8>,
     output: &'a mut Output,
     form: Form,
     /// Lines to print until the end.
@@ -44,11 +45,17 @@ pub struct Watch<'a> {
 }
 
 impl<'a> Watch<'a> {
-    /// Watches the keys that match the patterns.
-    pub fn new(options: &'a Options, patterns: &'a [Vec<u8>], output: &'a mut Output) -> Watch<'a> {
-        Watch {
+    /// Watches the keys that match the patterns. A wrong pattern is found before any connection.
+    pub fn new(
+        options: &'a Options,
+        patterns: &[Vec<u8>],
+        output: &'a mut Output,
+    ) -> Result<Watch<'a>, Trouble> {
+        let mut commands: Vec<Command> = patterns.iter().map(|p| Command::Sub(p)).collect();
+        commands.push(Command::Ping(SUBSCRIBED));
+        Ok(Watch {
             options,
-            patterns,
+            subscription: written(options.wire, &commands)?,
             output,
             form: options.form.unwrap_or(Form::Fields),
             left: options.count,
@@ -58,7 +65,7 @@ impl<'a> Watch<'a> {
             slow: 0,
             outage: None,
             pause: Duration::ZERO,
-        }
+        })
     }
 
     /// Prints lines until there are as many as were asked for, or until it cannot go on.
@@ -121,16 +128,14 @@ impl<'a> Watch<'a> {
     /// deleted before.
     fn connection(&mut self) -> Result<End, End> {
         self.informed = false;
-        let mut connection = Connection::open(&self.options.address, self.options.timeout)?;
-        let mut commands: Vec<Command> = self.patterns.iter().map(|p| Command::Sub(p)).collect();
-        commands.push(Command::Ping(SUBSCRIBED));
-        connection.send_all(&commands)?;
+        let mut connection = crate::connect(self.options)?;
+        connection.send_bytes(&self.subscription)?;
         let mut missing = Some(self.present.clone());
         while self.left != Some(0) {
             let message = self.receive(&mut connection, missing.is_some())?;
             self.connected();
             match message {
-                Message::Info(key, value) => {
+                Message::Info { key, value } => {
                     self.informed = true;
                     if let Some(missing) = &mut missing {
                         missing.remove(&key);
@@ -157,8 +162,7 @@ impl<'a> Watch<'a> {
         let keepalive = self.options.keepalive.unwrap_or(KEEPALIVE);
         match self.receive_within(connection, keepalive) {
             Err(End::Trouble(Trouble::Late)) => {
-                let mut ping = Vec::new();
-                Command::Ping(b"alive").append_to(&mut ping);
+                let ping = written(self.options.wire, &[Command::Ping(b"alive")])?;
                 // Where the server has closed, what it sent before is still to be received.
                 let _ = connection.send_some(&ping);
                 self.receive_within(connection, timeout)

@@ -4,33 +4,35 @@ mod common;
 
 use common::{await_frame, fake, frame, INFO, PONG, READ};
 use common::{
-    bare_program, bytes, done, finish, finish_with, program, run_bare, server, server_at,
+    bare_program, both, both_with, bytes, done, finish, finish_with, run_bare, server, server_at,
+    WIRES,
 };
 use std::io::{Read, Write};
 use std::time::{Duration, Instant};
 
 #[test]
 fn commands() {
-    let server = server("commands");
-    assert_eq!(server.run(&["ping"], b""), done("pong\n"));
-    assert_eq!(
-        server.run(&["read", "k"], b""),
-        (1, String::new(), String::new())
-    );
-    assert_eq!(server.run(&["write", "k", "a"], b""), done(""));
-    assert_eq!(server.run(&["read", "k"], b""), done("a\n"));
-    assert_eq!(server.run(&["write", "--", "--k", "-h"], b""), done(""));
-    assert_eq!(server.run(&["read", "--", "--k"], b""), done("-h\n"));
-    assert_eq!(
-        server.run(&["write", "--stdin", "k"], b"\0\"\n\\x"),
-        done("")
-    );
-    assert_eq!(
-        server.run(&["--text", "read", "k"], b""),
-        done("\"\\000\\042\\012\\134x\"\n")
-    );
-    assert_eq!(server.run(&["delete", "k"], b""), done(""));
-    assert_eq!(server.run(&["read", "k"], b"").0, 1);
+    for server in both("commands") {
+        assert_eq!(server.run(&["ping"], b""), done("pong\n"));
+        assert_eq!(
+            server.run(&["read", "k"], b""),
+            (1, String::new(), String::new())
+        );
+        assert_eq!(server.run(&["write", "k", "a"], b""), done(""));
+        assert_eq!(server.run(&["read", "k"], b""), done("a\n"));
+        assert_eq!(server.run(&["write", "--", "--k", "-h"], b""), done(""));
+        assert_eq!(server.run(&["read", "--", "--k"], b""), done("-h\n"));
+        assert_eq!(
+            server.run(&["write", "--stdin", "k"], b"\0\"\n\\x"),
+            done("")
+        );
+        assert_eq!(
+            server.run(&["--text", "read", "k"], b""),
+            done("\"\\000\\042\\012\\134x\"\n")
+        );
+        assert_eq!(server.run(&["delete", "k"], b""), done(""));
+        assert_eq!(server.run(&["read", "k"], b"").0, 1);
+    }
 }
 
 #[test]
@@ -87,6 +89,7 @@ fn the_program_says_what_it_is() {
     for word in [
         "tcp",
         "unix",
+        "wire",
         "timeout",
         "text",
         "raw",
@@ -107,34 +110,43 @@ fn the_program_says_what_it_is() {
         );
     }
     assert!(man.contains("\\fB\\-\\-man\\fR") && !help.1.contains("--man"));
+    // The example of a text line is what the program prints.
+    let line = run_bare(&["line", "write", "site.7.note", "say \"stop\""]).1;
+    let example = format!("$ infod3 line write site.7.note 'say \"stop\"'\n    {line}");
+    assert!(help.1.contains(&example), "{}", help.1);
 }
 
 #[test]
 fn watching() {
-    let server = server("watching");
-    assert_eq!(server.run(&["write", "a", "1"], b""), done(""));
-    let child = server.spawn(&["--count", "3", "watch", "b*", "a"]);
-    let mut watch = common::Lines::of(child);
-    assert_eq!(watch.output(), "a 1");
-    assert_eq!(server.run(&["write", "b1", "2"], b""), done(""));
-    assert_eq!(server.run(&["write", "c", "3"], b""), done(""));
-    assert_eq!(server.run(&["delete", "a"], b""), done(""));
-    assert_eq!(watch.output(), "b1 2");
-    assert_eq!(watch.output(), "a");
-    assert_eq!(watch.status(), 0);
+    for server in both("watching") {
+        assert_eq!(server.run(&["write", "a", "1"], b""), done(""));
+        let child = server.spawn(&["--count", "3", "watch", "b*", "a"]);
+        let mut watch = common::Lines::of(child);
+        assert_eq!(watch.output(), "a 1");
+        assert_eq!(server.run(&["write", "b1", "2"], b""), done(""));
+        assert_eq!(server.run(&["write", "c", "3"], b""), done(""));
+        assert_eq!(server.run(&["delete", "a"], b""), done(""));
+        assert_eq!(watch.output(), "b1 2");
+        assert_eq!(watch.output(), "a");
+        assert_eq!(watch.status(), 0);
+    }
 }
 
 #[test]
 fn wrong_usage() {
-    let commands = "read, write, delete, watch and ping";
+    let commands = "read, write, delete, watch, ping and line";
     let unknown = format!("unknown command reed; commands are {commands}");
-    let table: [(&[&str], &str); 9] = [
+    let table: [(&[&str], &str); 10] = [
         (&["reed", "k"], &unknown),
         (&["read"], "read wants a KEY"),
         (&["read", "a", "b"], "read wants a KEY alone; b is too much"),
         (&["write", "k"], "write wants a VALUE (or --stdin)"),
         (&["watch"], "watch wants a PATTERN"),
         (&["--loud"], "unknown option --loud"),
+        (
+            &["--wire", "packets", "ping"],
+            "--wire wants framed or text, not packets",
+        ),
         (
             &["--count=0", "watch", "k"],
             "--count wants a number from 1 to 1000000000, not 0",
@@ -154,57 +166,97 @@ fn wrong_usage() {
 #[test]
 fn troubles() {
     let sizes = infod3::Sizes::new(2, 256, 1024, 256).expect("sizes");
-    let server = server_at(&common::path("troubles"), sizes);
-    // 2: more than a message holds.
-    let long = "x".repeat(70_000);
-    assert_eq!(server.run(&["write", "k", &long], b"").0, 2);
-    // 4: the server sent ERROR.
-    let (status, _, errors) = server.run(&["write", "k", &"x".repeat(248)], b"");
-    assert_eq!(
-        (status, errors.as_str()),
-        (4, "infod3: ERROR 102 no room\n")
-    );
-    assert_eq!(server.run(&["watch", "a|b"], b"").0, 4);
-    // 3: no server, or no free slot.
-    let nobody = server.run(&["--unix", "/nonexistent/socket", "ping"], b"");
-    assert_eq!(nobody.0, 3);
-    let held: Vec<_> = (0..2)
-        .map(|_| std::os::unix::net::UnixStream::connect(&server.path).expect("connected"))
-        .collect();
-    let (status, _, errors) = server.run(&["ping"], b"");
-    assert_eq!(status, 3);
-    assert!(errors.contains("no free slot: 2 clients"), "{errors}");
-    drop(held);
-    // 5: the connection is lost.
-    let until = Instant::now() + Duration::from_secs(30);
-    while server.run(&["ping"], b"").0 != 0 {
-        assert!(Instant::now() < until, "the slots are not freed");
+    for server in both_with("troubles", sizes) {
+        // 2: more than a message holds.
+        let long = "x".repeat(70_000);
+        assert_eq!(server.run(&["write", "k", &long], b"").0, 2);
+        // 4: the server sent ERROR.
+        let (status, _, errors) = server.run(&["write", "k", &"x".repeat(248)], b"");
+        assert_eq!(
+            (status, errors.as_str()),
+            (4, "infod3: ERROR 102 no room\n")
+        );
+        let patterns: Vec<String> = (0..17).map(|n| n.to_string()).collect();
+        let patterns: Vec<&str> = patterns.iter().map(String::as_str).collect();
+        let (status, _, errors) = server.run(&[&["watch"], &patterns[..]].concat(), b"");
+        assert_eq!(
+            (status, errors.as_str()),
+            (4, "infod3: ERROR 102 no room\n")
+        );
+        // 3: no server, or no free slot.
+        let nobody = server.run(&["--unix", "/nonexistent/socket", "ping"], b"");
+        assert_eq!(nobody.0, 3);
+        let held: Vec<_> = (0..2)
+            .map(|_| std::os::unix::net::UnixStream::connect(&server.path).expect("connected"))
+            .collect();
+        let (status, _, errors) = server.run(&["ping"], b"");
+        assert_eq!(status, 3);
+        assert!(errors.contains("no free slot: 2 clients"), "{errors}");
+        drop(held);
+        // 5: the connection is lost.
+        let until = Instant::now() + Duration::from_secs(30);
+        while server.run(&["ping"], b"").0 != 0 {
+            assert!(Instant::now() < until, "the slots are not freed");
+        }
+        assert_eq!(server.run(&["write", "k", "v"], b"").0, 0);
+        let child = server.program().args(["--once", "watch", "*"]).spawn();
+        let mut watch = common::Lines::of(child.expect("infod3 runs"));
+        assert_eq!(watch.output(), "k v");
+        drop(server);
+        assert_eq!(
+            watch.error(),
+            "infod3: connection lost: closed by the server"
+        );
+        assert_eq!(watch.status(), 5);
     }
-    assert_eq!(server.run(&["write", "k", "v"], b"").0, 0);
-    let child = program(&server.path).args(["--once", "watch", "*"]).spawn();
-    let mut watch = common::Lines::of(child.expect("infod3 runs"));
-    assert_eq!(watch.output(), "k v");
-    drop(server);
-    assert_eq!(
-        watch.error(),
-        "infod3: connection lost: closed by the server"
-    );
-    assert_eq!(watch.status(), 5);
+}
+
+/// What a server would refuse is said at once, whether there is a server or not.
+#[test]
+fn a_refused_command_is_not_sent() {
+    let long = "x".repeat(65_536);
+    let no_pattern = "is no PATTERN, such as site.*.state or site.(7|8).*";
+    let too_long = "too long: a command holds at most 65535 bytes, so key and value together at \
+                    most 65534";
+    let table: [(&[&str], String); 6] = [
+        (&["watch", "**"], format!("** {no_pattern}")),
+        (&["watch", "k", "a|b"], format!("a|b {no_pattern}")),
+        (
+            &["watch", "k", &long[..256]],
+            "too long: a PATTERN has at most 255 bytes".to_owned(),
+        ),
+        (&["write", "k", &long[..65_534]], too_long.to_owned()),
+        (&["delete", &long], too_long.to_owned()),
+        (&["read", &long], too_long.to_owned()),
+    ];
+    let server = server("not-sent");
+    for path in [&server.path, &common::path("nobody-there")] {
+        for (wire, (words, said)) in WIRES
+            .iter()
+            .flat_map(|wire| table.iter().map(move |row| (wire, row)))
+        {
+            let ended = common::run(path, &[&["--wire", wire], *words].concat(), b"");
+            let said = format!("infod3: {said}\n");
+            assert_eq!(ended, (2, String::new(), said));
+        }
+    }
 }
 
 /// Between key and value there is a NUL.
 #[test]
 fn key_and_value_have_so_many_bytes_at_most() {
-    let server = server("longest");
-    let write = |len| server.run(&["write", "--stdin", "k"], &vec![b'x'; len]);
-    assert_eq!(write(65_533), done(""));
-    let line = "infod3: too long: a command holds at most 65535 bytes, so key and value together \
+    for server in both("longest") {
+        let write = |len| server.run(&["write", "--stdin", "k"], &vec![b'x'; len]);
+        assert_eq!(write(65_533), done(""));
+        let line =
+            "infod3: too long: a command holds at most 65535 bytes, so key and value together \
                 at most 65534\n";
-    assert_eq!(write(65_534), (2, String::new(), line.to_owned()));
-    let input = format!("write k {}\n", "x".repeat(65_534));
-    let (status, _, errors) = server.run(&[], input.as_bytes());
-    assert_eq!(status, 2);
-    assert!(errors.starts_with(line), "{errors}");
+        assert_eq!(write(65_534), (2, String::new(), line.to_owned()));
+        let input = format!("write k {}\n", "x".repeat(65_534));
+        let (status, _, errors) = server.run(&[], input.as_bytes());
+        assert_eq!(status, 2);
+        assert!(errors.starts_with(line), "{errors}");
+    }
 }
 
 /// A server that answers for another key, or with something else, has not answered.
@@ -230,12 +282,13 @@ fn the_value_is_that_of_the_key() {
 
 #[test]
 fn a_value_from_standard_input_may_be_of_any_bytes() {
-    let server = server("bytes");
-    let value: Vec<u8> = (0..=255).collect();
-    let child = server.spawn(&["write", "--stdin", "k"]);
-    assert_eq!(finish_with(child, &value), done(""));
-    let output = program(&server.path).args(["--raw", "read", "k"]).output();
-    let mut expected = value;
-    expected.push(b'\n');
-    assert_eq!(output.expect("its output").stdout, expected);
+    for server in both("bytes") {
+        let value: Vec<u8> = (0..=255).collect();
+        let child = server.spawn(&["write", "--stdin", "k"]);
+        assert_eq!(finish_with(child, &value), done(""));
+        let output = server.program().args(["--raw", "read", "k"]).output();
+        let mut expected = value;
+        expected.push(b'\n');
+        assert_eq!(output.expect("its output").stdout, expected);
+    }
 }

@@ -3,8 +3,7 @@
 mod common;
 
 use common::{
-    await_frame, done, fake, finish_with, frame, path, program, run, run_bare, server, spawn,
-    Ended, Lines,
+    await_frame, both, done, fake, finish_with, frame, path, run, run_bare, spawn, Ended, Lines,
 };
 use common::{INFO, PING, PONG};
 use std::io::{Read, Write};
@@ -13,38 +12,45 @@ use std::time::{Duration, Instant};
 
 #[test]
 fn lines() {
-    let server = server("lines");
-    let input = b"write k \"x\\012y\"\nread k\n\nBEGIN\nwrite k 2\nping p\ncommit\nr k\nd k\nr k";
-    let output = "\"k\" \"x\\012y\"\npong \"p\"\n\"k\" \"2\"\n\"k\"\n";
-    assert_eq!(server.run(&[], input), done(output));
-    assert_eq!(server.run(&[], b"ping\nquit\nping\n"), done("pong \"\"\n"));
-    let (status, _, errors) = server.run(&[], b"sub **\n");
-    assert_eq!(
-        (status, errors.as_str()),
-        (4, "infod3: ERROR 101 bad parameter\n")
-    );
-    let many = "w k 1\nr k\n".repeat(20_000);
-    let output = "\"k\" \"1\"\n".repeat(20_000);
-    assert_eq!(server.run(&[], many.as_bytes()), done(&output));
+    for server in both("lines") {
+        let input =
+            b"write k \"x\\012y\"\nread k\n\nBEGIN\nwrite k 2\nping p\ncommit\nr k\nd k\nr k";
+        let output = "\"k\" \"x\\012y\"\npong \"p\"\n\"k\" \"2\"\n\"k\"\n";
+        assert_eq!(server.run(&[], input), done(output));
+        assert_eq!(server.run(&[], b"ping\nquit\nping\n"), done("pong \"\"\n"));
+        let (status, _, errors) = server.run(&[], b"begin\nbegin\n");
+        assert_eq!(
+            (status, errors.as_str()),
+            (4, "infod3: ERROR 103 bad state\n")
+        );
+        let hello = server.run(&[], b"hello\nhello 7 \"me\\012\"\n");
+        assert_eq!(hello, done("version 0 \"\"\nversion 0 \"\"\n"));
+        let many = "w k 1\nr k\n".repeat(20_000);
+        let output = "\"k\" \"1\"\n".repeat(20_000);
+        assert_eq!(server.run(&[], many.as_bytes()), done(&output));
+    }
 }
 
 /// The other lines are sent all the same, and the status tells that not all were.
 #[test]
 fn a_wrong_line_says_what_is_missing() {
-    let server = server("wrong-lines");
-    let input = b"nonsense\nread\nwrite k\nwrite k \"v\ncommit now\nping\n";
-    let (status, output, errors) = server.run(&[], input);
-    assert_eq!((status, output.as_str()), (2, "pong \"\"\n"));
-    let expected = [
+    for server in both("wrong-lines") {
+        let input = b"nonsense\nread\nwrite k\nwrite k \"v\ncommit now\nsub **\nunsub a|b\nping\n";
+        let (status, output, errors) = server.run(&[], input);
+        assert_eq!((status, output.as_str()), (2, "pong \"\"\n"));
+        let expected = [
         "infod3: unknown command nonsense; commands are read, write, delete, sub, unsub, begin, \
          commit, ping, hello, help and quit",
         "infod3: read wants a KEY",
         "infod3: write wants a VALUE",
         "infod3: a field that begins with \" ends with one, and \\ooo is a byte in octal",
         "infod3: commit wants nothing behind it, not now",
-        "infod3: 5 lines were wrong and not sent; infod3 --help shows how",
+        "infod3: ** is no PATTERN, such as site.*.state or site.(7|8).*",
+        "infod3: a|b is no PATTERN, such as site.*.state or site.(7|8).*",
+        "infod3: 7 lines were wrong and not sent; infod3 --help shows how",
     ];
-    assert_eq!(errors.lines().collect::<Vec<_>>(), expected);
+        assert_eq!(errors.lines().collect::<Vec<_>>(), expected);
+    }
 }
 
 /// The end of a program whose lines leave a transaction open.
@@ -56,64 +62,68 @@ fn uncommitted(output: &str) -> Ended {
 /// What was asked before it is answered, and nothing waits for the time to be over.
 #[test]
 fn an_open_transaction_is_not_committed_at_the_end() {
-    let server = server("open");
-    for input in [
-        "write k 1\nread k\nbegin\nwrite k 2\nread k\n",
-        "write k 1\nread k\nbegin\nwrite k 2\nquit\ncommit\n",
-        "begin\nwrite k 1\ncommit\nread k\nB\nd k",
-    ] {
-        let ended = server.run(&["--timeout", "1000"], input.as_bytes());
-        assert_eq!(ended, uncommitted("\"k\" \"1\"\n"));
-        assert_eq!(server.run(&["read", "k"], b""), done("1\n"));
+    for server in both("open") {
+        for input in [
+            "write k 1\nread k\nbegin\nwrite k 2\nread k\n",
+            "write k 1\nread k\nbegin\nwrite k 2\nquit\ncommit\n",
+            "begin\nwrite k 1\ncommit\nread k\nB\nd k",
+        ] {
+            let ended = server.run(&["--timeout", "1000"], input.as_bytes());
+            assert_eq!(ended, uncommitted("\"k\" \"1\"\n"));
+            assert_eq!(server.run(&["read", "k"], b""), done("1\n"));
+        }
     }
 }
 
 /// All or none of it: the lines behind the wrong one, and behind the transaction, are not sent.
 #[test]
 fn a_wrong_line_in_a_transaction_ends_it() {
-    let server = server("wrong-in-transaction");
-    assert_eq!(server.run(&["write", "k", "1"], b""), done(""));
-    let long = format!("write k {}", "x".repeat(65_534));
-    let endless = "x".repeat(600_000);
-    for (wrong, said) in [
-        ("wrte l 2", "infod3: unknown command wrte; "),
-        ("write l", "infod3: write wants a VALUE\n"),
-        (&long, "infod3: "),
-        (&endless, "infod3: a line has more than 524288 bytes\n"),
-    ] {
-        let input = format!("begin\nwrite k 2\n{wrong}\ncommit\nwrite k 3\n");
-        let (status, output, errors) = server.run(&[], input.as_bytes());
-        assert_eq!((status, output.as_str()), (2, ""), "{errors}");
-        assert!(errors.starts_with(said), "{errors}");
-        let lines: Vec<&str> = errors.lines().collect();
-        let end = "infod3: the transaction was not committed";
-        assert_eq!(lines[1..], [end], "{errors}");
-        assert_eq!(server.run(&["read", "k"], b""), done("1\n"));
+    for server in both("wrong-in-transaction") {
+        assert_eq!(server.run(&["write", "k", "1"], b""), done(""));
+        let long = format!("write k {}", "x".repeat(65_534));
+        let endless = "x".repeat(600_000);
+        for (wrong, said) in [
+            ("wrte l 2", "infod3: unknown command wrte; "),
+            ("write l", "infod3: write wants a VALUE\n"),
+            (&long, "infod3: "),
+            ("sub **", "infod3: ** is no PATTERN, "),
+            (&endless, "infod3: a line has more than 524288 bytes\n"),
+        ] {
+            let input = format!("begin\nwrite k 2\n{wrong}\ncommit\nwrite k 3\n");
+            let (status, output, errors) = server.run(&[], input.as_bytes());
+            assert_eq!((status, output.as_str()), (2, ""), "{errors}");
+            assert!(errors.starts_with(said), "{errors}");
+            let lines: Vec<&str> = errors.lines().collect();
+            let end = "infod3: the transaction was not committed";
+            assert_eq!(lines[1..], [end], "{errors}");
+            assert_eq!(server.run(&["read", "k"], b""), done("1\n"));
+        }
+        let input = b"read k\nbegin\ncommit\nnonsense\nread k\n";
+        let (status, output, _) = server.run(&[], input);
+        assert_eq!((status, output.lines().count()), (2, 2));
     }
-    let input = b"read k\nbegin\ncommit\nnonsense\nread k\n";
-    let (status, output, _) = server.run(&[], input);
-    assert_eq!((status, output.lines().count()), (2, 2));
 }
 
 /// On a terminal a wrong line is said and the transaction goes on; the status at the end is 0.
 #[test]
 fn who_types_goes_on_after_a_wrong_line() {
-    let server = server("typed");
-    let (mut keyboard, terminal) = common::sys::terminal();
-    let child = program(&server.path).stdin(terminal).spawn();
-    let mut session = Lines::of(child.expect("infod3 runs"));
-    let line = session.error();
-    assert!(line.starts_with("infod3: connected to unix:"), "{line}");
-    let input = b"begin\nwrite k\nwrite k 1\ncommit\nread k\n";
-    keyboard.write_all(input).expect("typed");
-    assert_eq!(session.error(), "infod3: write wants a VALUE");
-    assert_eq!(session.output(), "\"k\" \"1\"");
-    let input = b"begin\nwrite k 2\nquit\n";
-    keyboard.write_all(input).expect("typed");
-    let line = "infod3: the transaction was not committed";
-    assert_eq!(session.error(), line);
-    assert_eq!(session.status(), 0);
-    assert_eq!(server.run(&["read", "k"], b""), done("1\n"));
+    for server in both("typed") {
+        let (mut keyboard, terminal) = common::sys::terminal();
+        let child = server.program().stdin(terminal).spawn();
+        let mut session = Lines::of(child.expect("infod3 runs"));
+        let line = session.error();
+        assert!(line.starts_with("infod3: connected to unix:"), "{line}");
+        let input = b"begin\nwrite k\nwrite k 1\ncommit\nread k\n";
+        keyboard.write_all(input).expect("typed");
+        assert_eq!(session.error(), "infod3: write wants a VALUE");
+        assert_eq!(session.output(), "\"k\" \"1\"");
+        let input = b"begin\nwrite k 2\nquit\n";
+        keyboard.write_all(input).expect("typed");
+        let line = "infod3: the transaction was not committed";
+        assert_eq!(session.error(), line);
+        assert_eq!(session.status(), 0);
+        assert_eq!(server.run(&["read", "k"], b""), done("1\n"));
+    }
 }
 
 /// What comes before the end is shown; a connection that is lost meanwhile is no good end.
@@ -132,29 +142,31 @@ fn an_open_transaction_ends_with_the_connection() {
     assert_eq!(status, 5, "{errors}");
 }
 
-/// In a frame it would end the key, and deleting would be writing.
+/// It would end the key, and deleting would be writing.
 #[test]
 fn a_key_holds_no_nul() {
-    let server = server("nul");
-    let input = b"delete \"a\\000b\"\nwrite \"a\\000b\" c\nread a\n";
-    let (status, output, errors) = server.run(&[], input);
-    assert_eq!((status, output.as_str()), (2, "\"a\"\n"));
-    let line = "infod3: a KEY holds no NUL\n";
-    assert!(errors.starts_with(&line.repeat(2)), "{errors}");
+    for server in both("nul") {
+        let input = b"delete \"a\\000b\"\nwrite \"a\\000b\" c\nread \"a\\000b\"\nread a\n";
+        let (status, output, errors) = server.run(&[], input);
+        assert_eq!((status, output.as_str()), (2, "\"a\"\n"));
+        let line = "infod3: a KEY holds no NUL\n";
+        assert!(errors.starts_with(&line.repeat(3)), "{errors}");
+    }
 }
 
 /// The input stays open, as that of a terminal at which nobody types.
 #[test]
 fn a_refused_command_shows_at_once() {
-    let server = server("at-once");
-    let mut child = server.spawn(&[]);
-    let mut input = child.stdin.take().expect("its input");
-    let mut session = Lines::of(child);
-    input.write_all(b"ping\nsub **\n").expect("written");
-    assert_eq!(session.output(), "pong \"\"");
-    assert_eq!(session.error(), "infod3: ERROR 101 bad parameter");
-    assert_eq!(session.status(), 4);
-    drop(input);
+    for server in both("at-once") {
+        let mut child = server.spawn(&[]);
+        let mut input = child.stdin.take().expect("its input");
+        let mut session = Lines::of(child);
+        input.write_all(b"ping\nbegin\nbegin\n").expect("written");
+        assert_eq!(session.output(), "pong \"\"");
+        assert_eq!(session.error(), "infod3: ERROR 103 bad state");
+        assert_eq!(session.status(), 4);
+        drop(input);
+    }
 }
 
 /// A server closes a client that says nothing for long, but a terminal may be silent.
@@ -174,31 +186,33 @@ fn it_speaks_before_anybody_types() {
 
 #[test]
 fn a_line_without_end_is_wrong() {
-    let server = server("endless");
-    let (status, _, errors) = server.run(&[], &vec![b'x'; 600_000]);
-    assert_eq!(status, 2);
-    let line = "infod3: a line has more than 524288 bytes; ";
-    assert!(errors.starts_with(line), "{errors}");
-    // The longest command fits, each byte of it in octal.
-    let value = "\\001".repeat(65_533);
-    let input = format!("write k \"{value}\"\nwrite k 1\nread k\n");
-    assert_eq!(server.run(&[], input.as_bytes()), done("\"k\" \"1\"\n"));
+    for server in both("endless") {
+        let (status, _, errors) = server.run(&[], &vec![b'x'; 600_000]);
+        assert_eq!(status, 2);
+        let line = "infod3: a line has more than 524288 bytes; ";
+        assert!(errors.starts_with(line), "{errors}");
+        // The longest command fits, each byte of it in octal.
+        let value = "\\001".repeat(65_533);
+        let input = format!("write k \"{value}\"\nwrite k 1\nread k\n");
+        assert_eq!(server.run(&[], input.as_bytes()), done("\"k\" \"1\"\n"));
+    }
 }
 
 /// The server ends while nobody types.
 #[test]
 fn a_lost_connection_shows_at_once() {
-    let server = server("lost-at-once");
-    let mut child = server.spawn(&[]);
-    let mut input = child.stdin.take().expect("its input");
-    let mut session = Lines::of(child);
-    input.write_all(b"ping\n").expect("written");
-    assert_eq!(session.output(), "pong \"\"");
-    drop(server);
-    let lost = "infod3: connection lost: closed by the server";
-    assert_eq!(session.error(), lost);
-    assert_eq!(session.status(), 5);
-    drop(input);
+    for server in both("lost-at-once") {
+        let mut child = server.spawn(&[]);
+        let mut input = child.stdin.take().expect("its input");
+        let mut session = Lines::of(child);
+        input.write_all(b"ping\n").expect("written");
+        assert_eq!(session.output(), "pong \"\"");
+        drop(server);
+        let lost = "infod3: connection lost: closed by the server";
+        assert_eq!(session.error(), lost);
+        assert_eq!(session.status(), 5);
+        drop(input);
+    }
 }
 
 #[test]

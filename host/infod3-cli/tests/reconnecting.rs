@@ -2,8 +2,8 @@
 
 mod common;
 
-use common::{await_frame, done, fake, frame, path, program, server, server_at, spawn, Lines};
-use common::{ERROR, INFO, PING, PONG};
+use common::{await_frame, await_ping, both, done, error, fake, frame, info, path, program};
+use common::{server_at, spawn, Lines, ERROR, INFO, PING, PONG, WIRES};
 use std::io::{Read, Write};
 use std::os::unix::net::UnixStream;
 use std::sync::mpsc::channel;
@@ -11,44 +11,50 @@ use std::time::{Duration, Instant};
 
 #[test]
 fn it_waits_for_the_server() {
-    let path = path("waits");
-    let mut watch = Lines::of(spawn(&path, &["--count", "1", "watch", "k"]));
-    let line = watch.error();
-    assert!(line.starts_with("infod3: cannot connect: "), "{line}");
-    assert!(line.ends_with("; trying again"), "{line}");
-    let server = server_at(&path, infod3::Sizes::LARGEST);
-    let line = watch.error();
-    assert!(line.starts_with("infod3: connected after "), "{line}");
-    assert_eq!(server.run(&["write", "k", "v"], b""), done(""));
-    assert_eq!(watch.output(), "k v");
-    assert_eq!(watch.status(), 0);
+    for wire in WIRES {
+        let path = path(&format!("waits-{wire}"));
+        let mut watch = Lines::of(spawn(
+            &path,
+            &["--wire", wire, "--count", "1", "watch", "k"],
+        ));
+        let line = watch.error();
+        assert!(line.starts_with("infod3: cannot connect: "), "{line}");
+        assert!(line.ends_with("; trying again"), "{line}");
+        let server = server_at(&path, infod3::Sizes::LARGEST);
+        let line = watch.error();
+        assert!(line.starts_with("infod3: connected after "), "{line}");
+        assert_eq!(server.run(&["write", "k", "v"], b""), done(""));
+        assert_eq!(watch.output(), "k v");
+        assert_eq!(watch.status(), 0);
+    }
 }
 
 /// After the restart the keys are gone, which the lines say; then they change again.
 #[test]
 fn it_survives_a_restart() {
-    let first = server("restart");
-    let path = first.path.clone();
-    assert_eq!(first.run(&["write", "a", "1"], b""), done(""));
-    assert_eq!(first.run(&["write", "b", "2"], b""), done(""));
-    let mut watch = Lines::of(first.spawn(&["--count", "6", "watch", "*"]));
-    assert_eq!(watch.output(), "a 1");
-    assert_eq!(watch.output(), "b 2");
-    assert_eq!(first.run(&["delete", "b"], b""), done(""));
-    assert_eq!(watch.output(), "b");
-    drop(first);
-    let lost = "infod3: connection lost: closed by the server; trying again";
-    assert_eq!(watch.error(), lost);
-    let second = server_at(&path, infod3::Sizes::LARGEST);
-    let line = watch.error();
-    assert!(line.starts_with("infod3: connected again after "), "{line}");
-    // The key b was deleted already, and is not said to be deleted again.
-    assert_eq!(watch.output(), "a");
-    assert_eq!(second.run(&["write", "b", "3"], b""), done(""));
-    assert_eq!(watch.output(), "b 3");
-    assert_eq!(second.run(&["write", "a", "4"], b""), done(""));
-    assert_eq!(watch.output(), "a 4");
-    assert_eq!(watch.status(), 0);
+    for first in both("restart") {
+        let path = first.path.clone();
+        assert_eq!(first.run(&["write", "a", "1"], b""), done(""));
+        assert_eq!(first.run(&["write", "b", "2"], b""), done(""));
+        let mut watch = Lines::of(first.spawn(&["--count", "6", "watch", "*"]));
+        assert_eq!(watch.output(), "a 1");
+        assert_eq!(watch.output(), "b 2");
+        assert_eq!(first.run(&["delete", "b"], b""), done(""));
+        assert_eq!(watch.output(), "b");
+        drop(first);
+        let lost = "infod3: connection lost: closed by the server; trying again";
+        assert_eq!(watch.error(), lost);
+        let second = server_at(&path, infod3::Sizes::LARGEST);
+        let line = watch.error();
+        assert!(line.starts_with("infod3: connected again after "), "{line}");
+        // The key b was deleted already, and is not said to be deleted again.
+        assert_eq!(watch.output(), "a");
+        assert_eq!(second.run(&["write", "b", "3"], b""), done(""));
+        assert_eq!(watch.output(), "b 3");
+        assert_eq!(second.run(&["write", "a", "4"], b""), done(""));
+        assert_eq!(watch.output(), "a 4");
+        assert_eq!(watch.status(), 0);
+    }
 }
 
 #[test]
@@ -65,6 +71,39 @@ fn subscribe(stream: &mut UnixStream, infos: &[&[u8]]) {
         stream.write_all(&frame(INFO, info)).expect("written");
     }
     stream.write_all(&frame(PONG, &id)).expect("written");
+}
+
+/// Lost and too slow in text lines as in frames.
+#[test]
+fn text_lines_are_watched_too() {
+    for wire in WIRES {
+        let path = fake(&format!("forms-{wire}"), move |number, mut stream| {
+            let pong = await_ping(&mut stream, wire);
+            let mut said = match number {
+                0 => [info(wire, "a", "1"), info(wire, "b", "1"), pong].concat(),
+                1 => [info(wire, "b", "2"), pong, error(wire, 102, "no room")].concat(),
+                _ => [info(wire, "b", "3"), pong, error(wire, 103, "no")].concat(),
+            };
+            if number == 0 {
+                // The connection is lost inside of a message.
+                let next = info(wire, "c", "1");
+                said.extend_from_slice(&next[..next.len() - 1]);
+            }
+            stream.write_all(&said).expect("written");
+        });
+        let mut watch = Lines::of(spawn(&path, &["--wire", wire, "watch", "*"]));
+        for line in ["a 1", "b 1", "b 2", "a", "b 3"] {
+            assert_eq!(watch.output(), line);
+        }
+        let lost = "infod3: connection lost: closed by the server; trying again";
+        assert_eq!(watch.error(), lost);
+        let again = |line: String| line.starts_with("infod3: connected again after ");
+        assert!(again(watch.error()));
+        assert_eq!(watch.error(), "infod3: ERROR 102 no room; trying again");
+        assert!(again(watch.error()));
+        assert_eq!(watch.error(), "infod3: ERROR 103 no");
+        assert_eq!(watch.status(), 4);
+    }
 }
 
 /// What a subscription does not show any more was deleted; what it shows is there.
@@ -91,26 +130,26 @@ fn deletions_during_the_outage_are_said() {
 }
 
 /// The server goes silent without closing, as one behind a dead line.
-#[test]
-fn a_silent_server_is_found_out() {
+fn is_found_out_when_silent(wire: &'static str) {
     let mut silent = Vec::new();
-    let path = fake("silent", move |number, mut stream| match number {
-        0 => {
-            subscribe(&mut stream, &[b"k\x001"]);
+    let path = fake(&format!("silent-{wire}"), move |number, mut stream| {
+        let pong = await_ping(&mut stream, wire);
+        let value = if number == 0 { "1" } else { "2" };
+        let said = [info(wire, "k", value), pong].concat();
+        stream.write_all(&said).expect("written");
+        if number == 0 {
             silent.push(stream);
+            return;
         }
-        _ => {
-            subscribe(&mut stream, &[b"k\x002"]);
-            // This one answers.
-            for _ in 0..2 {
-                let id = await_frame(&mut stream, PING);
-                stream.write_all(&frame(PONG, &id)).expect("written");
-            }
-            stream.write_all(&frame(INFO, b"k\x003")).expect("written");
-            let _ = stream.read_to_end(&mut Vec::new());
+        // This one answers.
+        for _ in 0..2 {
+            let pong = await_ping(&mut stream, wire);
+            stream.write_all(&pong).expect("written");
         }
+        stream.write_all(&info(wire, "k", "3")).expect("written");
+        let _ = stream.read_to_end(&mut Vec::new());
     });
-    let options = ["--keepalive", "1", "--timeout", "3"];
+    let options = ["--wire", wire, "--keepalive", "1", "--timeout", "3"];
     let child = program(&path).args(options).args(["watch", "k"]).spawn();
     let watch = Lines::of(child.expect("infod3 runs"));
     assert_eq!(watch.output(), "k 1");
@@ -120,6 +159,16 @@ fn a_silent_server_is_found_out() {
     // A machine that holds the answers up for seconds lets it connect once more.
     let next = std::iter::from_fn(|| Some(watch.output())).find(|line| line != "k 2");
     assert_eq!(next.as_deref(), Some("k 3"));
+}
+
+#[test]
+fn a_silent_server_is_found_out() {
+    is_found_out_when_silent("framed");
+}
+
+#[test]
+fn a_silent_server_is_found_out_in_text() {
+    is_found_out_when_silent("text");
 }
 
 /// A reader that was too slow is shut with 102, and comes again; other errors end it.

@@ -2,7 +2,7 @@
 
 mod common;
 
-use common::{await_frame, fake, finish_with, frame, run, Ended, INFO, PING, WRITE};
+use common::{await_command, await_ping, fake, finish_with, info, run, Ended, WIRES, WRITE};
 use std::io::{Read, Write};
 use std::net::TcpListener;
 use std::os::unix::net::UnixStream;
@@ -28,34 +28,40 @@ fn part(mut stream: UnixStream) {
 
 #[test]
 fn a_read_only_listener_is_no_lost_connection() {
-    let path = fake("read-only", |_, mut stream| {
-        await_frame(&mut stream, WRITE);
-        say(&mut stream, READ_ONLY);
-        part(stream);
-    });
-    assert_eq!(run(&path, &["write", "k", "v"], b""), read_only());
-    assert_eq!(run(&path, &["delete", "k"], b""), read_only());
-    assert_eq!(run(&path, &[], b"write k v\n"), read_only());
+    for wire in WIRES {
+        let path = fake(&format!("read-only-{wire}"), move |_, mut stream| {
+            await_command(&mut stream, wire, WRITE);
+            say(&mut stream, READ_ONLY);
+            part(stream);
+        });
+        let run = |words: &[&str], input| run(&path, &[&["--wire", wire], words].concat(), input);
+        assert_eq!(run(&["write", "k", "v"], b""), read_only());
+        assert_eq!(run(&["delete", "k"], b""), read_only());
+        assert_eq!(run(&[], b"write k v\n"), read_only());
+    }
 }
 
 #[test]
 fn a_line_may_come_in_parts() {
-    let path = fake("parts", |_, mut stream| {
-        await_frame(&mut stream, WRITE);
-        say(&mut stream, b"# read-");
-        // The two parts need not be read apart for the test to hold, but mostly they are.
-        std::thread::sleep(Duration::from_millis(50));
-        say(&mut stream, b"only: no\r\n");
-        part(stream);
-    });
-    assert_eq!(run(&path, &["write", "k", "v"], b""), read_only());
-    // A line that is cut off by the connection's end counts as well.
-    let path = fake("cut", |_, mut stream| {
-        await_frame(&mut stream, WRITE);
-        say(&mut stream, b"# read-only");
-        part(stream);
-    });
-    assert_eq!(run(&path, &["write", "k", "v"], b""), read_only());
+    for wire in WIRES {
+        let words = ["--wire", wire, "write", "k", "v"];
+        let path = fake(&format!("parts-{wire}"), move |_, mut stream| {
+            await_command(&mut stream, wire, WRITE);
+            say(&mut stream, b"# read-");
+            // The two parts need not be read apart for the test to hold, but mostly they are.
+            std::thread::sleep(Duration::from_millis(50));
+            say(&mut stream, b"only: no\r\n");
+            part(stream);
+        });
+        assert_eq!(run(&path, &words, b""), read_only());
+        // A line that is cut off by the connection's end counts as well.
+        let path = fake(&format!("cut-{wire}"), move |_, mut stream| {
+            await_command(&mut stream, wire, WRITE);
+            say(&mut stream, b"# read-only");
+            part(stream);
+        });
+        assert_eq!(run(&path, &words, b""), read_only());
+    }
 }
 
 /// The server closes with bytes unread, so that sending fails with a broken pipe or a reset.
@@ -68,8 +74,11 @@ fn the_line_is_found_where_sending_fails() {
     let value = vec![b'x'; 60_000];
     let input = format!("write k {}\n", "x".repeat(60_000)).repeat(20);
     for _ in 0..10 {
-        assert_eq!(run(&path, &["write", "--stdin", "k"], &value), read_only());
-        assert_eq!(run(&path, &[], input.as_bytes()), read_only());
+        for wire in WIRES {
+            let words = ["--wire", wire, "write", "--stdin", "k"];
+            assert_eq!(run(&path, &words, &value), read_only());
+            assert_eq!(run(&path, &words[..2], input.as_bytes()), read_only());
+        }
     }
 }
 
@@ -118,20 +127,24 @@ fn other_lines_are_told_apart() {
             say(&mut stream, line);
             part(stream);
         });
-        let expected = (status, String::new(), said.to_owned());
-        assert_eq!(run(&path, &["ping"], b""), expected);
+        for wire in WIRES {
+            let expected = (status, String::new(), said.to_owned());
+            assert_eq!(run(&path, &["--wire", wire, "ping"], b""), expected);
+        }
     }
 }
 
 #[test]
 fn a_line_behind_messages_is_found() {
-    let path = fake("behind", |_, mut stream| {
-        await_frame(&mut stream, PING);
-        say(&mut stream, &frame(INFO, b"k\0#v"));
-        say(&mut stream, READ_ONLY);
-        part(stream);
-    });
-    let (status, output, errors) = run(&path, &[], b"ping\n");
-    assert_eq!((status, output.as_str()), (7, "\"k\" \"#v\"\n"));
-    assert_eq!(errors, read_only().2);
+    for wire in WIRES {
+        let path = fake(&format!("behind-{wire}"), move |_, mut stream| {
+            await_ping(&mut stream, wire);
+            say(&mut stream, &info(wire, "k", "#v"));
+            say(&mut stream, READ_ONLY);
+            part(stream);
+        });
+        let (status, output, errors) = run(&path, &["--wire", wire], b"ping\n");
+        assert_eq!((status, output.as_str()), (7, "\"k\" \"#v\"\n"));
+        assert_eq!(errors, read_only().2);
+    }
 }

@@ -83,6 +83,22 @@
 //! [`View`] reads a few numbers of a memory without a call, such as how many bytes a client's queue
 //! holds, for a host that would have to try many calls else.
 //!
+//! # The client's side
+//!
+//! A program at the other end of the line needs no broker: [`client`] writes all commands and reads
+//! all messages, in packets, in frames and in text, so that nobody has to quote a string or to count
+//! a length by hand. What it writes a broker reads as the same command, and what a broker says it
+//! reads as the same message.
+//!
+//! ```
+//! use infod3::client::{write, Command, Wire};
+//!
+//! let mut line = Vec::new();
+//! write(Wire::Text, &Command::Write(b"site.7.note", b"a\\b\n"), &mut line)?;
+//! assert_eq!(line, b"WRITE \"site.7.note\" \"a\\134b\\012\"\n");
+//! # Ok::<(), infod3::client::CodecError>(())
+//! ```
+//!
 //! # Linking
 //!
 //! The build links the archive `libffi.a`, from target/staticlib of the repository (where
@@ -93,6 +109,7 @@
 
 mod answer;
 mod broker;
+pub mod client;
 mod layout;
 #[allow(unsafe_code)]
 pub mod raw;

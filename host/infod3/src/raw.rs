@@ -19,14 +19,29 @@
 //! assert_eq!(raw::close(&mut mem, 0).answer, 0);
 //! ```
 
-/// What a call gives back: its answer, and the bytes that a feed consumed or a take wrote.
+/// What a call gives back: its answer, and the bytes that a feed consumed, or that a take or a
+/// write_command wrote.
 #[repr(C)]
 #[derive(Clone, Copy, Debug, PartialEq, Eq)]
 pub struct Reply {
     /// The numbered answer of the rules paper.
     pub answer: u32,
-    /// The bytes consumed by a feed or written by a take; 0 beside the answers 1 to 8.
+    /// The bytes consumed by a feed or written by a take or a write_command; 0 beside the answers 1
+    /// to 8.
     pub count: usize,
+}
+
+/// What reading a message gives back: its answer, the bytes of the input that the message took up,
+/// and the bytes written.
+#[repr(C)]
+#[derive(Clone, Copy, Debug, PartialEq, Eq)]
+pub struct Read {
+    /// The numbered answer of the rules paper.
+    pub answer: u32,
+    /// The length of the message in the input; 0 beside the answers 1 to 8.
+    pub consumed: usize,
+    /// The bytes of ID and payload; 0 beside every answer but 0.
+    pub written: usize,
 }
 
 /// What a match asked by itself gives.
@@ -75,6 +90,20 @@ extern "C" {
         key: *const u8,
         key_len: usize,
     ) -> MatchResult;
+    fn infod3_write_command(
+        form: usize,
+        command: *const u8,
+        command_len: usize,
+        out: *mut u8,
+        out_len: usize,
+    ) -> Reply;
+    fn infod3_read_message(
+        form: usize,
+        input: *const u8,
+        input_len: usize,
+        out: *mut u8,
+        out_len: usize,
+    ) -> Read;
 }
 
 /// Sets `mem` up for `n` slots, store room `s`, queue room `q` and record room `r`, whatever it
@@ -147,6 +176,59 @@ pub fn matches(pattern: &[u8], key: &[u8]) -> Match {
     }
 }
 
+/// Writes a command, an ID and its payload, at the front of `out`, in form 0 (packets), 1 (framed
+/// bytes) or 2 (text). Answers 8, 100, 101, 102, 5.
+///
+/// ```
+/// use infod3::raw;
+///
+/// let mut out = [0; 64];
+/// let written = raw::write_command(2, b"\x04k\0a\nb", &mut out);
+/// assert_eq!(written.answer, 0);
+/// assert_eq!(&out[..written.count], b"WRITE \"k\" \"a\\012b\"\n");
+/// assert_eq!(raw::write_command(2, b"\x01**", &mut out).answer, 101);
+/// assert_eq!(raw::write_command(1, b"\x05", &mut out[..2]).answer, 5);
+/// ```
+pub fn write_command(form: usize, command: &[u8], out: &mut [u8]) -> Reply {
+    // SAFETY: pointers and lengths are those of two slices, of which the first is only read and
+    // nothing else borrows the second; by Rust's borrow rules they do not overlap. The library
+    // reads and writes only inside them and keeps no pointer. The form may be any number.
+    unsafe {
+        infod3_write_command(
+            form,
+            command.as_ptr(),
+            command.len(),
+            out.as_mut_ptr(),
+            out.len(),
+        )
+    }
+}
+
+/// Reads the first message of `input` in form 0 (packets), 1 (framed bytes) or 2 (text): its ID and
+/// payload are written at the front of `out`. Answers 8, 1, 100, 101, 102, 5.
+///
+/// ```
+/// use infod3::raw;
+///
+/// let mut out = [0; 64];
+/// let read = raw::read_message(2, b"INFO \"k\" \"\\134\"\r\nPONG", &mut out);
+/// assert_eq!((read.answer, read.consumed), (0, 17));
+/// assert_eq!(&out[..read.written], b"\x81k\0\\");
+/// assert_eq!(raw::read_message(1, b"\x82\0\x01", &mut out).answer, 1);
+/// ```
+pub fn read_message(form: usize, input: &[u8], out: &mut [u8]) -> Read {
+    // SAFETY: as for `write_command`.
+    unsafe {
+        infod3_read_message(
+            form,
+            input.as_ptr(),
+            input.len(),
+            out.as_mut_ptr(),
+            out.len(),
+        )
+    }
+}
+
 #[cfg(test)]
 mod tests {
     use super::*;
@@ -159,6 +241,12 @@ mod tests {
         assert_eq!(open(&mut [], usize::MAX, usize::MAX).answer, 7);
         assert_eq!(set_up(&mut [], 1, 256, 1024, 256).answer, 5);
         assert_eq!(set_up(&mut [], 0, 256, 1024, 256).answer, 8);
+        assert_eq!(write_command(1, &[], &mut []).answer, 100);
+        assert_eq!(write_command(0, b"\x05", &mut []).answer, 5);
+        assert_eq!(write_command(usize::MAX, &[], &mut []).answer, 8);
+        assert_eq!(read_message(0, &[], &mut []).answer, 100);
+        assert_eq!(read_message(1, &[], &mut []).answer, 1);
+        assert_eq!(read_message(usize::MAX, &[], &mut []).answer, 8);
     }
 
     #[test]

@@ -4,10 +4,12 @@
 //! that the two can be compared call by call. It has no lent memory: answer 7, and answer 5 of
 //! set up, are the caller's. There is one module for each section of the paper: `patterns`,
 //! `reading` ("From bytes to one command"), `writing` ("Messages written"), `store` and
-//! `server` ("The simple server").
+//! `server` ("The simple server"). `client` is the other end of the line: a writer of commands
+//! and a reader of messages.
 
 #![forbid(unsafe_code)]
 
+pub mod client;
 pub mod patterns;
 pub mod reading;
 pub mod server;

@@ -178,7 +178,7 @@ fn pattern(bytes: &[u8]) -> Result<Pattern, u32> {
     Pattern::parse(bytes).ok_or(101)
 }
 
-const WORDS: [(&[u8], &[u8], u8); 8] = [
+pub(crate) const WORDS: [(&[u8], &[u8], u8); 8] = [
     (b"HELLO", b"", 0x00),
     (b"SUB", b"S", 0x01),
     (b"UNSUB", b"U", 0x02),

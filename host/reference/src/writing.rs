@@ -98,7 +98,7 @@ fn text_line(message: Message) -> Vec<u8> {
 }
 
 /// A string in quotes, with five bytes as octal escapes and the rest raw.
-fn push_string(string: &[u8], line: &mut Vec<u8>) {
+pub(crate) fn push_string(string: &[u8], line: &mut Vec<u8>) {
     line.push(b'"');
     for &byte in string {
         match byte {

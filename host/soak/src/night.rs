@@ -181,7 +181,10 @@ fn watch(night: &Night, who: usize, record: &mut Record, stay: Duration) -> Resu
             asked = Some(Instant::now());
         }
         match connection.receive(Some(Duration::from_millis(100))) {
-            Ok(Message::Info(key, Some(value))) => record.info(&key, &value),
+            Ok(Message::Info {
+                key,
+                value: Some(value),
+            }) => record.info(&key, &value),
             Ok(Message::Pong(_)) => return Ok(true),
             Ok(_) => record.faults.lost += 1,
             Err(Trouble::Late) if asked.is_some_and(|at| at.elapsed() > night.patience) => {

@@ -50,7 +50,10 @@ fn dawdle(night: &Night, who: usize, record: &mut Record) -> Result<(), Trouble>
     }
     loop {
         match connection.receive(Some(Duration::from_millis(200))) {
-            Ok(Message::Info(key, Some(value))) => record.info(&key, &value),
+            Ok(Message::Info {
+                key,
+                value: Some(value),
+            }) => record.info(&key, &value),
             Ok(_) => record.faults.lost += 1,
             Err(Trouble::Late) if !night.is_on() => return Ok(()),
             Err(Trouble::Late) => {}

@@ -10,8 +10,10 @@
 //! - [`pair`]: the library and the reference side by side, given the same calls.
 //! - [`generator`]: random lists of calls, steered towards every answer and limit.
 //! - [`observed`]: what such a list has reached.
+//! - [`client`]: the client's side of both, and inputs for it.
 
 pub mod alter;
+pub mod client;
 pub mod edges;
 pub mod expected;
 pub mod generator;

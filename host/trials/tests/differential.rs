@@ -552,27 +552,11 @@ impl Matches {
     }
 }
 
-/// All words of this alphabet with up to so many bytes.
-fn all_words(alphabet: &[u8], longest: usize) -> Vec<Vec<u8>> {
-    let mut words = vec![Vec::new()];
-    let mut from = 0;
-    for _ in 0..longest {
-        let to = words.len();
-        for index in from..to {
-            for &byte in alphabet {
-                words.push([&words[index][..], &[byte]].concat());
-            }
-        }
-        from = to;
-    }
-    words
-}
-
 #[test]
 fn all_short_patterns() {
     let mut matches = Matches::default();
-    let keys = all_words(b"ab", 3);
-    for pattern in all_words(b"ab(|)*?\\", 5) {
+    let keys = messages::all_words(b"ab", 3);
+    for pattern in messages::all_words(b"ab(|)*?\\", 5) {
         keys.iter().for_each(|key| matches.compare(&pattern, key));
     }
     matches.print("all short patterns");

@@ -1,4 +1,5 @@
-//! What the tests share: real servers, servers that only say what a test wants, and the program.
+//! What the tests share: real servers, servers that only say what a test wants, and the program, in
+//! both forms of the wire.
 
 #![allow(dead_code)]
 
@@ -23,11 +24,28 @@ pub fn path(name: &str) -> PathBuf {
     std::env::temp_dir().join(format!("infod3-cli-{}-{name}", std::process::id()))
 }
 
-/// A server in a thread.
+/// The two values of the option `--wire`.
+pub const WIRES: [&str; 2] = ["framed", "text"];
+
+/// A server in a thread, and the form in which the program is to speak with it.
 pub struct Running {
     pub path: PathBuf,
     pub tcp: String,
-    handle: Handle,
+    wire: &'static str,
+    stopping: Stopping,
+}
+
+/// A server for each form of the wire.
+pub fn both(name: &str) -> [Running; 2] {
+    both_with(name, infod3::Sizes::LARGEST)
+}
+
+/// Such servers of these sizes.
+pub fn both_with(name: &str, sizes: infod3::Sizes) -> [Running; 2] {
+    WIRES.map(|wire| Running {
+        wire,
+        ..server_at(&path(&format!("{name}-{wire}")), sizes)
+    })
 }
 
 /// A server with the largest sizes.
@@ -50,11 +68,24 @@ pub fn server_at(path: &Path, sizes: infod3::Sizes) -> Running {
     let tcp = server.places()[0].to_string().replace("tcp ", "");
     let handle = server.handle().expect("a handle");
     thread::spawn(move || server.run().expect("a clean end"));
-    let path = path.to_owned();
-    Running { path, tcp, handle }
+    Running {
+        path: path.to_owned(),
+        tcp,
+        wire: "framed",
+        stopping: Stopping {
+            handle,
+            path: path.to_owned(),
+        },
+    }
 }
 
-impl Drop for Running {
+/// Stops a server at the end.
+struct Stopping {
+    handle: Handle,
+    path: PathBuf,
+}
+
+impl Drop for Stopping {
     fn drop(&mut self) {
         self.handle.stop();
         let until = Instant::now() + PATIENCE;
@@ -65,13 +96,21 @@ impl Drop for Running {
 }
 
 impl Running {
+    /// The program, with the options that name the server and the wire.
+    pub fn program(&self) -> Command {
+        let mut command = program(&self.path);
+        command.args(["--wire", self.wire]);
+        command
+    }
+
     pub fn spawn(&self, arguments: &[&str]) -> Child {
-        spawn(&self.path, arguments)
+        let child = self.program().args(arguments).spawn();
+        child.expect("infod3 runs")
     }
 
     /// Runs the program with this input: its status, output and errors.
     pub fn run(&self, arguments: &[&str], input: &[u8]) -> Ended {
-        run(&self.path, arguments, input)
+        finish_with(self.spawn(arguments), input)
     }
 }
 
@@ -277,6 +316,55 @@ pub fn await_frame(stream: &mut impl Read, id: u8) -> Vec<u8> {
         if head[0] == id {
             return payload;
         }
+    }
+}
+
+/// Reads commands in this form of the wire until one has this ID, and gives its payload, in text
+/// its line from the first space on.
+pub fn await_command(stream: &mut impl Read, wire: &str, id: u8) -> Vec<u8> {
+    if wire == "framed" {
+        return await_frame(stream, id);
+    }
+    let word: &[u8] = match id {
+        READ => b"READ",
+        WRITE => b"WRITE",
+        _ => b"PING",
+    };
+    loop {
+        let mut line = Vec::new();
+        while !line.ends_with(b"\n") {
+            let mut byte = [0];
+            stream.read_exact(&mut byte).expect("a line");
+            line.push(byte[0]);
+        }
+        if let Some(rest) = line.strip_prefix(word) {
+            return rest.to_vec();
+        }
+    }
+}
+
+/// Reads commands until one is a PING, and gives the PONG that answers it.
+pub fn await_ping(stream: &mut impl Read, wire: &str) -> Vec<u8> {
+    let id = await_command(stream, wire, PING);
+    match wire {
+        "framed" => frame(PONG, &id),
+        _ => [b"PONG".as_slice(), id.trim_ascii_end(), b"\r\n"].concat(),
+    }
+}
+
+/// An INFO of plain bytes.
+pub fn info(wire: &str, key: &str, value: &str) -> Vec<u8> {
+    match wire {
+        "framed" => frame(INFO, format!("{key}\0{value}").as_bytes()),
+        _ => format!("INFO \"{key}\" \"{value}\"\r\n").into_bytes(),
+    }
+}
+
+/// An ERROR of plain bytes.
+pub fn error(wire: &str, number: u8, text: &str) -> Vec<u8> {
+    match wire {
+        "framed" => frame(ERROR, &[&[number], text.as_bytes()].concat()),
+        _ => format!("ERROR {number} \"{text}\"\r\n").into_bytes(),
     }
 }
 

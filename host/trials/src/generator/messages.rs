@@ -464,3 +464,19 @@ fn write(rng: &mut Random, server: &Server, longest: usize) -> Command {
         _ => Command::Write(key(rng, server), Some(value(rng, longest))),
     }
 }
+
+/// All words of this alphabet with up to so many bytes.
+pub fn all_words(alphabet: &[u8], longest: usize) -> Vec<Vec<u8>> {
+    let mut words = vec![Vec::new()];
+    let mut from = 0;
+    for _ in 0..longest {
+        let to = words.len();
+        for index in from..to {
+            for &byte in alphabet {
+                words.push([&words[index][..], &[byte]].concat());
+            }
+        }
+        from = to;
+    }
+    words
+}

@@ -134,7 +134,8 @@ static void deliver(size_t slot) {
     }
 }
 
-/* Feeds one message; false where none is whole, or the client has not taken its own answers. */
+/* Feeds one message; false where none is whole, or the client has not taken its own answers. A text
+ * client goes on after a typing error, so only the library says who is shut. */
 static bool feed(size_t slot) {
     client *c = &clients[slot];
     infod3_reply reply;
@@ -146,9 +147,9 @@ static bool feed(size_t slot) {
         c->leaving = c->ended || c->in_len == sizeof c->in;
         return c->leaving;
     }
-    if (reply.answer == 3 || reply.answer >= 100) { /* shut: its ERROR is in the queue */
+    if (reply.answer == 3) { /* shut, by this client's last message or by a full queue: an ERROR is queued */
         c->leaving = true;
-    } else {
+    } else if (reply.answer < 100) { /* behind 100 to 103 the next feed tells whether it is shut */
         expect("feed", reply);
     }
     c->in_len -= reply.count;

@@ -144,7 +144,7 @@ static bool act(controller *c, const uint8_t *message, size_t len) {
             decide(c);
         }
         return true;
-    default: /* ERROR, behind which the server closes */
+    default: /* ERROR: it has sent what it should not, and counts on nothing that it has */
         snprintf(why, sizeof why, "refused with %d", message[1]);
         return lost(c, why);
     }

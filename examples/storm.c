@@ -47,8 +47,8 @@ static void say(size_t slot, const char *line) {
     const uint8_t *input = (const uint8_t *)line;
     infod3_reply reply = infod3_feed(memory, sizeof memory, slot, input, strlen(line));
     printf("slot %lu < %s", (unsigned long)slot, line);
-    if (reply.answer >= 100) {
-        printf("  refused with %lu: the client is shut\n", (unsigned long)reply.answer);
+    if (reply.answer >= 100) { /* its ERROR is queued; after 102 a text client is shut */
+        printf("  refused with %lu\n", (unsigned long)reply.answer);
     } else {
         check("feed", reply);
     }
@@ -72,7 +72,8 @@ int main(void) {
     say(FEED, "WRITE site.7.state stop\n");
     say(FEED, "COMMIT\n");
     say(SITE, "READ site.9.state\n");
-    say(FEED, "NONSENSE\n");
+    say(SITE, "NONSENSE\n"); /* a typing error costs it no pattern */
+    say(FEED, "WRITE site.7.state clear\n");
 
     check("close", infod3_close(memory, sizeof memory, FEED));
     check("close", infod3_close(memory, sizeof memory, SITE));

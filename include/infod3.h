@@ -18,17 +18,18 @@
  *        read_message
  *     6  take: the queue is empty
  *     7  the memory breaks a rule of its layout (docs/layout.md)
- *     8  a size of set up is out of range; or a form is neither 0 nor 1 (write_command, read_message:
- *        above 2)
+ *     8  a size of set up is out of range; or a form is above 2
  *   100  unknown or malformed message
  *   101  bad parameter
  *   102  no room
  *   103  bad command state
  *
  * Answers 1 to 8 leave every lent byte as it was, and the counts beside them are 0. A feed refused with
- * 100 to 103 queues one ERROR to its client, shuts it, and drops its patterns and its recording; the
- * store and all other clients stay as they were. Every refusal of write_command and read_message, 100
- * to 102 too, leaves the out slice as it was.
+ * 100 to 103 queues one ERROR to its client; the store and all other clients stay as they were. A text
+ * client that was opened in form 1 stays open after 100, 101 and 103 and keeps its patterns; a
+ * transaction that it is in is spoiled (see infod3_feed). Any other client, and every client after 102,
+ * is shut: its patterns and its recording are dropped, and its queued messages may still be taken. Every
+ * refusal of write_command and read_message, 100 to 102 too, leaves the out slice as it was.
  *
  * Every function is proved to meet the contract that these comments put in words; the proofs are in
  * the repository's crates.
@@ -77,14 +78,22 @@ size_t infod3_memory_size(size_t n, size_t s, size_t q, size_t r);
 infod3_reply infod3_set_up(uint8_t *mem, size_t mem_len, size_t n, size_t s, size_t q, size_t r);
 
 /* Opens a client in a free slot: form 0 is packets (each feed is one message), form 1 a stream of
- * frames or of text lines, which its first byte decides. Answers, in this order: 7, 2, 8, 4, else 0. */
+ * frames or of text lines, which its first byte decides, and form 2 such a stream whose client every
+ * refusal shuts, a text client too. Answers, in this order: 7, 2, 8, 4, else 0. */
 infod3_reply infod3_open(uint8_t *mem, size_t mem_len, size_t slot, size_t form);
 
 /* Feeds a client the front of its input. The first whole message is taken and no more; the count is
  * its length, a text line's one ending byte included, for the answers 0 and 100 to 103. Answers, in
  * this order: 7, 2, 3, 1, then what the message comes to. Feed again with what is left over, and with
  * more input after a 1. The answer is 0 also where the message's own messages did not fit in the
- * client's queue, so that it was shut: take then gives the ERROR. */
+ * client's queue, so that it was shut: take then gives the ERROR, behind what was queued before.
+ *
+ * A refusal with 100, 101 or 103 is a slip of a text client of form 1. Its ERROR is queued like any
+ * message, which takes its length and 4 bytes more of the queue, and the client stays open; but where it
+ * does not fit in q less 64 beside what the queue holds, the client is shut with 102 instead, and 102 is
+ * the answer. A slip inside a transaction spoils it, and what was recorded is dropped. From then on
+ * commands that would be recorded get 0 and do nothing, those that are refused with 100 to 102 are so as
+ * ever (`COMMIT x` is 101), a BEGIN is 103, and a COMMIT is 103, does nothing and ends the transaction. */
 infod3_reply infod3_feed(uint8_t *mem, size_t mem_len, size_t slot, const uint8_t *input,
                          size_t input_len);
 
@@ -102,11 +111,12 @@ infod3_reply infod3_close(uint8_t *mem, size_t mem_len, size_t slot);
 infod3_match_result infod3_match(const uint8_t *pattern, size_t pattern_len, const uint8_t *key,
                                  size_t key_len);
 
-/* The client's side. A form is here 0 for packets, 1 for framed bytes, 2 for text. Form 0 goes with a
- * client that was opened in form 0, forms 1 and 2 with one that was opened in form 1, either of them
- * for as long as it is open. A command that is handed in and a message that is handed out stand as in
- * packets: one byte of ID, then the payload. What write_command writes a feed reads as that command,
- * and what a take gives read_message reads as that message. */
+/* The client's side. A form is here how bytes are written, and not how a slot was opened: 0 for packets,
+ * 1 for framed bytes, 2 for text. Packets go with a slot that was opened in form 0. Frames and text go
+ * with one that was opened in form 1 or 2, either of them for as long as it is open. A command that is
+ * handed in and a message that is handed out stand as in packets: one byte of ID, then the payload. What
+ * write_command writes a feed reads as that command, and what a take gives read_message reads as that
+ * message. */
 
 /* Writes a command at the front of out; the count is its length, and the rest of out stays as it was.
  * A text line ends in LF. Answers, in this order: 8 for a form above 2; 100 for an empty command or an

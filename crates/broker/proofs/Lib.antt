@@ -7,6 +7,7 @@ pub mod Decided
 pub mod Messages
 pub mod Fixing
 pub mod Fixed
+pub mod Refused
 pub mod Cuts
 pub mod Recorded
 pub mod Running

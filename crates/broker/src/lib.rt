@@ -1,8 +1,8 @@
 // The message broker: five calls over one lent slice of bytes, which holds the store and for each
 // slot a client with its patterns, its recording and its queue. A call reads all that it needs from
-// the memory, and nothing is kept outside it. The specs of the crate service say what each call
-// gives back and does (Service), and what the calls promise for every memory and every argument
-// (Contracts). Set up is in setting, feed's message in feeding and transaction.
+// the memory, and nothing is kept outside it. The specs of the crate model say what each call gives
+// back and does (Calls), those of refinement what the calls promise for every memory and every
+// argument (Contracts). Set up is in setting, feed's message in feeding and transaction.
 mod feeding;
 mod setting;
 mod transaction;
@@ -13,14 +13,15 @@ ghost use mathlib.Core.Path.{_≡_};
 ghost use mathlib.Core.Bool.{not};
 ghost use mathlib.Core.Option.{some};
 ghost use Prim.Native.Nat.{_≤_};
+ghost use lib.Dec.{eqb};
 ghost use lib.ListN.{length};
 ghost use Rattle.wire.specs.Received.{isWhole};
-ghost use Rattle.model.specs.State.{slotAt};
+ghost use Rattle.model.specs.State.{openingWith, slotAt};
 ghost use Rattle.memory.specs.Image.{isUsed, imageOf};
 ghost use Rattle.memory.specs.Rules.{Sound};
 ghost use Rattle.infod3.specs.Infod3.{infod3};
 ghost use Rattle.model.specs.Decision.{opens, feeds, closes};
-ghost use Rattle.model.specs.Calls.{kindOf};
+ghost use Rattle.model.specs.Calls.{openingOf};
 ghost use Rattle.refinement.specs.Contracts.{Serves, Takes};
 use protocol::Kind;
 
@@ -45,10 +46,10 @@ fn done(count: usize) -> Reply
     Reply { answer: 0, count }
 }
 
-// The kind of a client that is opened in a form: 0 is packets, 1 a stream.
+// The kind of a client that is opened in a form: 0 is packets, 1 and 2 are a stream.
 fn form_kind(form: usize) -> Kind
-    requires { ⌜ form ≤ 1 ⌝ }
-    ensures { λ k. ⌜ kindOf form ≡ some k ⌝ }
+    requires { ⌜ form ≤ 2 ⌝ }
+    ensures { λ k. ⌜ openingOf form ≡ some (openingWith k (eqb form 2)) ⌝ }
 {
     if form == 0 {
         return Kind::Packets;
@@ -56,9 +57,9 @@ fn form_kind(form: usize) -> Kind
     Kind::Stream
 }
 
-// Opens a client in a free slot, in form 0 (packets) or 1 (stream). Answers: 7 for a memory that
-// breaks a rule of its layout, 2 for a slot number N or more, 8 for another form, 4 for a slot that
-// is not free.
+// Opens a client in a free slot, in form 0 (packets), 1 (stream) or 2 (a stream that every refusal
+// shuts). Answers: 7 for a memory that breaks a rule of its layout, 2 for a slot number N or more,
+// 8 for another form, 4 for a slot that is not free.
 pub fn open(mem: &mut [u8], slot: usize, form: usize) -> Reply
     ensures { λ r. ⌜ Serves infod3 (opens slot form) (now (mem .entry))
         (r .answer) (r .count) (now (mem .exit)) ⌝ }
@@ -69,13 +70,13 @@ pub fn open(mem: &mut [u8], slot: usize, form: usize) -> Reply
     if memory::slot_count(&mem[..]) <= slot {
         return unaltered(2);
     }
-    if 1 < form {
+    if 2 < form {
         return unaltered(8);
     }
     if !memory::is_free(&mem[..], slot) {
         return unaltered(4);
     }
-    memory::open(mem, slot, form_kind(form));
+    memory::open(mem, slot, form_kind(form), form == 2);
     done(0)
 }
 
@@ -105,7 +106,8 @@ fn is_partial(kind: Kind, m: &[u8]) -> bool
 // Feeds a client its input, of which the first whole message is taken and no more; the count is its
 // length. Answers: 7 for a memory that breaks a rule of its layout, 2 for a slot free or N or more,
 // 3 for a shut client, 1 where the input holds no whole message, and 100 to 103 for a message that
-// is refused, whose client is shut.
+// is refused. After 100, 101 and 103 a text client that was opened in form 1 stays open; any other
+// client, and every client after 102, is shut.
 pub fn feed(mem: &mut [u8], slot: usize, input: &[u8]) -> Reply
     ensures { λ r. ⌜ Serves infod3 (feeds slot (now (input .entry))) (now (mem .entry))
         (r .answer) (r .count) (now (mem .exit)) ⌝ }

@@ -20,7 +20,8 @@ use Rattle.memory.specs.Image.{Image, imageOf}
 use Rattle.memory.specs.Rules.{memoryFine}
 use Rattle.infod3.specs.Infod3.{infod3}
 use Rattle.refinement.specs.Contracts.{setUpAnswer, replyTo, imageAfter, Serves}
-use Rattle.guarantee.specs.Demand1.{Asked, call, Called, sets-up, serves, gives, Numbered, ShutAlone, Demand1}
+use Rattle.guarantee.specs.Demand1.{Asked, call, Called, sets-up, serves, gives, Numbered, RefusedAlone}
+use Rattle.guarantee.specs.Demand1.{Demand1}
 
 -- ---- the answers
 
@@ -73,8 +74,8 @@ module _ {x : Call} {answer count : ℕ} {m m′ : Bytes} (s : Serves infod3 x m
   same-image = s .next fine .means
 
   -- what the simple server says of a refusal holds of what the memory means
-  shut-alone : ShutAlone (call x) answer m m′
-  shut-alone =
+  refused : RefusedAlone (call x) answer m m′
+  refused =
       let l : 100 ≤ serve infod3 x im .reply .answer = omega (arith, same-answer) in
       let r = refused-alone infod3 im x l in
       record {
@@ -84,13 +85,18 @@ module _ {x : Call} {answer count : ℕ} {m m′ : Bytes} (s : Serves infod3 x m
         reason = r .reason;
         numbered = same-answer ∙ r .numbered;
         client = r .client;
-        before = r .leaves .before;
-        was-open = r .leaves .was-open;
+        before = r .touched .before;
+        was-open = r .touched .was-open;
+        consumed = r .consumed;
         kind = r .kind-now;
-        after = ap (slotAt (r .slot)) same-image ∙ r .leaves .after;
-        store-kept = ap (λ (i : Image). i .store) same-image ∙ r .leaves .store-kept;
-        sizes-kept = ap (λ (i : Image). i .sizes) same-image ∙ r .leaves .sizes-kept;
-        others-kept = λ j n. ap (slotAt j) same-image ∙ r .leaves .others-kept j n;
+        reading = r .reading;
+        reads = r .reads;
+        left = r .left;
+        leaves = r .leaves;
+        after = ap (slotAt (r .slot)) same-image ∙ r .touched .after;
+        store-kept = ap (λ (i : Image). i .store) same-image ∙ r .touched .store-kept;
+        sizes-kept = ap (λ (i : Image). i .sizes) same-image ∙ r .touched .sizes-kept;
+        others-kept = λ j n. ap (slotAt j) same-image ∙ r .touched .others-kept j n;
       }
 
 -- ---- all of it
@@ -109,7 +115,7 @@ demand-1 (serves {x} {m} silent s) =
     record {
       numbered = rw (s .answered) (reply-numbered x m);
       unaltered = λ p q. (s .unaltered p q, refl);
-      refused = shut-alone s;
+      refused = refused s;
     }
 demand-1 (gives {i} {m} {out} {answer = answer} t) =
     let x : Call = takes i (length out) in
@@ -120,5 +126,5 @@ demand-1 (gives {i} {m} {out} {answer = answer} t) =
         s .unaltered p q,
         t .written ∙ ap (sets out 0) (reply-no-bytes x m (rw (s .answered) at p) (rw (s .answered) at q)),
       );
-      refused = shut-alone s;
+      refused = refused s;
     }

@@ -10,7 +10,7 @@ use Rattle.model.specs.Store.{Store}
 use Rattle.model.specs.State.{Sizes, Client, used, State, emptyServer, slotAt}
 use Rattle.model.specs.State.{withKind, withPatterns, withTransaction, withQueue}
 use Rattle.model.specs.Queueing.{rest}
-use Rattle.model.specs.Queue.{encoded, afterTake, shutBy, withMessages, afterStep}
+use Rattle.model.specs.Queue.{encoded, afterTake, shutBy, withError, withMessages, afterStep}
 use Rattle.model.specs.Decision.{Call, Reply}
 use Rattle.model.specs.Calls.{decide, serve, afterCalls}
 use Rattle.model.specs.Log.{Log, newLog, logAfterStep}
@@ -19,8 +19,8 @@ use Rattle.model.specs.Invariant.{Reachable}
 use Rattle.model.proofs.Invariants.{invariant-reachable}
 use Rattle.model.proofs.Queues.{StepOutcome, was-shut, got-all, got-none, step-outcome}
 use Rattle.model.proofs.Always.{free-not-used}
-use Rattle.model.proofs.Changes.{Change, kept, served, spoke, was-refused, ran, watched, SlotChange, slot-change}
-use Rattle.model.proofs.Changes.{vacant, closed-now, opened-now, changed}
+use Rattle.model.proofs.Changes.{Change, kept, served, spoke, was-refused, stayed, ran, watched, SlotChange}
+use Rattle.model.proofs.Changes.{vacant, closed-now, opened-now, changed, slot-change}
 use Rattle.infod3.specs.Infod3.{infod3}
 use Rattle.infod3.proofs.Laws.{lawful}
 use Rattle.refinement.specs.Contracts.{Represents, SetsUp, Step}
@@ -43,11 +43,12 @@ step-queued Q mine xs s c = go (step-outcome infod3 Q mine xs s c)
 
 change-queued : (st : State) (c d : Client) {x : Call} {s : Store} {l : Log} → Change infod3 st c newLog x s d l
     → QueuedBehind c d l
-unfolding afterTake withQueue rest withTransaction withKind shutBy
+unfolding afterTake withQueue rest withTransaction withKind shutBy withError
 change-queued st c d (kept x) = sym (append-nil (c .queue))
 change-queued st c d (served i len m ms w q) = rw (q, append-nil (m ∷ ms))
 change-queued st c d (spoke i bs n k x r sp rec) = sym (append-nil (c .queue))
 change-queued st c d (was-refused i bs n k x r sp why) = refl
+change-queued st c d (stayed i bs n k x r t sp why stays fits left) = refl
 change-queued st c d (ran i bs n k x xs sp run ok) =
     step-queued (st .sizes .queueRoom) _ xs (st .store) (withTransaction _ (withKind k c))
 change-queued st c d (watched i bs n k x feeder xs sp run ok) =

@@ -1,22 +1,22 @@
--- A transaction tableBytes as a recording region: it keeps the rules and means the transaction.
+-- A transaction written as a recording region: it keeps the rules and means the transaction.
 use mathlib.Core.Path.{_≡_, refl, ap, ap₂, _∙_}
 use mathlib.Core.List.{List, [], _∷_, _++_}
-use mathlib.Core.Bool.{true, cond, not}
+use mathlib.Core.Bool.{true, not}
 use Prim.Native.Nat.{ℕ, suc, _+_, _*_, _≤_, _<_}
 use native.Mathlib.Omega.{arith}
-use lib.Dec.{eqb, leb}
+use lib.Dec.{leb}
 use lib.ListN.{length, drop, getD, length-append}
 use borrow.Author.Tests.{leb-true, le-leb}
 use Rattle.octets.specs.Octets.{Bytes}
 use Rattle.octets.specs.Number.{numberAt}
 use Rattle.protocol.specs.Terms.{Action, hello, sub, unsub, read, write, ping, payload, actionId}
 use Rattle.pattern.specs.Syntax.{valid}
-use Rattle.model.specs.State.{Transaction, off, begun, actionsIn, recordingCharge, recordingFits}
+use Rattle.model.specs.State.{Transaction, off, begun, spoiled, actionsIn, recordingCharge, recordingFits}
 use Rattle.model.specs.Lawful.{ValidAction}
 use Rattle.model.specs.Invariant.{Each, ValidRecording}
 use Rattle.model.proofs.Tests.{and-left, and-right}
 use Rattle.recording.specs.Encoding.{readsBack, actionFine, rowOf, actionsFrom, rowsFine}
-use Rattle.recording.specs.Region.{stateOf, usedOf, countOf, roomOf, rowsOf, recorded, transactionOf}
+use Rattle.recording.specs.Region.{stateOf, usedOf, countOf, roomOf, rowsOf, recorded, transactionIn, transactionOf}
 use Rattle.recording.specs.Region.{sized, stateFine, recordingFine}
 use Rattle.recording.proofs.Tests.{and-true-true}
 use Rattle.recording.proofs.Encodings.{actionOf-payload}
@@ -37,10 +37,11 @@ numbersOf state xs = state ∷ recordingCharge xs ∷ length xs ∷ []
 unfoldable pub recordingBytes : ℕ → ℕ → List Action → Bytes
 recordingBytes R state xs = numbersThen (numbersOf state xs) (filled R (tableBytes actionBytes xs))
 
--- the state: 0 none, 1 recording
+-- the state: 0 none, 1 recording, 2 spoiled
 abbrev pub stateNumber : Transaction → ℕ
 stateNumber off = 0
 stateNumber (begun xs) = 1
+stateNumber spoiled = 2
 
 -- a transaction as a region
 unfoldable pub transactionBytes : ℕ → Transaction → Bytes
@@ -99,7 +100,7 @@ length-actions (a ∷ xs) h =
 -- ---- the region
 
 module _ (room state : ℕ) (xs : List Action) (small : room ≤ 262144) (known : stateFine state (length xs) ≡ true)
-    (bit : state ≤ 1) (v : ValidRecording infod3 valid room xs) where
+    (small-state : state ≤ 2) (v : ValidRecording infod3 valid room xs) where
   abbrev region : Bytes
   region = recordingBytes room state xs
 
@@ -121,7 +122,7 @@ module _ (room state : ℕ) (xs : List Action) (small : room ≤ 262144) (known 
   unfolding recordingBytes
   number-is =
       numberAt-numbersThen (numbersOf state xs) (filled room (tableBytes actionBytes xs))
-      (omega (arith, bit), (omega (arith, charge-most, small), (omega (arith, few), tt)))
+      (omega (arith, small-state), (omega (arith, charge-most, small), (omega (arith, few), tt)))
 
   state-is : stateOf region ≡ state
   unfolding stateOf
@@ -157,24 +158,28 @@ module _ (room state : ℕ) (xs : List Action) (small : room ≤ 262144) (known 
       (and-true-true (le-leb (countOf region) 64 count)
       (and-true-true state rows)))
 
-  transaction-is : transactionOf region ≡ cond (eqb state 0) off (begun xs)
-  unfolding transactionOf recorded
+  transaction-is : transactionOf region ≡ transactionIn state xs
+  unfolding recorded
   transaction-is = rw (state-is, recorded-count, rows-are, actions-are xs (v .actions))
 
 -- ---- a transaction
 
-state-bit : (t : Transaction) → stateNumber t ≤ 1
-state-bit off = omega arith
-state-bit (begun xs) = omega arith
+state-small : (t : Transaction) → stateNumber t ≤ 2
+state-small off = omega arith
+state-small (begun xs) = omega arith
+state-small spoiled = omega arith
 
 state-known : (t : Transaction) → stateFine (stateNumber t) (length (actionsIn t)) ≡ true
 unfolding stateFine
 state-known off = refl
 state-known (begun xs) = refl
+state-known spoiled = refl
 
-state-means : (t : Transaction) → cond (eqb (stateNumber t) 0) off (begun (actionsIn t)) ≡ t
+state-means : (t : Transaction) → transactionIn (stateNumber t) (actionsIn t) ≡ t
+unfolding transactionIn
 state-means off = refl
 state-means (begun xs) = refl
+state-means spoiled = refl
 
 -- what a transaction within its limits has recorded
 actions-valid : (R : ℕ) (t : Transaction)
@@ -183,21 +188,22 @@ actions-valid : (R : ℕ) (t : Transaction)
 unfolding recordingFits recordingCharge
 actions-valid R off h = record { fits = le-leb 0 R (omega arith); actions = tt }
 actions-valid R (begun xs) h = h xs refl
+actions-valid R spoiled h = record { fits = le-leb 0 R (omega arith); actions = tt }
 
 module _ (R : ℕ) (t : Transaction) (small : R ≤ 262144)
     (h : (xs : List Action) → t ≡ begun xs → ValidRecording infod3 valid R xs) where
   pub length-transaction : length (transactionBytes R t) ≡ 12 + R
   unfolding transactionBytes
   length-transaction =
-      length-recording R (stateNumber t) (actionsIn t) small (state-known t) (state-bit t) (actions-valid R t h)
+      length-recording R (stateNumber t) (actionsIn t) small (state-known t) (state-small t) (actions-valid R t h)
 
   pub transaction-fine : recordingFine (transactionBytes R t) ≡ true
   unfolding transactionBytes
   transaction-fine =
-      recording-fine R (stateNumber t) (actionsIn t) small (state-known t) (state-bit t) (actions-valid R t h)
+      recording-fine R (stateNumber t) (actionsIn t) small (state-known t) (state-small t) (actions-valid R t h)
 
   pub transaction-means : transactionOf (transactionBytes R t) ≡ t
   unfolding transactionBytes
   transaction-means =
-      transaction-is R (stateNumber t) (actionsIn t) small (state-known t) (state-bit t) (actions-valid R t h)
+      transaction-is R (stateNumber t) (actionsIn t) small (state-known t) (state-small t) (actions-valid R t h)
       ∙ state-means t

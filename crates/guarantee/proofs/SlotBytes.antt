@@ -17,8 +17,8 @@ use Rattle.model.specs.Invariant.{ClientInvariant, SlotInvariant}
 use Rattle.recording.specs.Region.{transactionOf}
 use Rattle.subscriptions.specs.Region.{patternsOf}
 use Rattle.slot.specs.Image.{ClientImage, Resting}
-use Rattle.slot.specs.Region.{reserveOf, kindNumber, phaseOf, slotOf, slotFine}
-use Rattle.slot.proofs.Operations.{kindNumber-most, kindNumbered-number}
+use Rattle.slot.specs.Region.{reserveOf, byteFor, phaseOf, slotOf, slotFine}
+use Rattle.slot.proofs.Operations.{says-byteFor}
 use Rattle.slot.proofs.Slots.{Holds, Fine, image, clientOf-holds, rules-holds, slotOf-used, slotOf-free}
 use Rattle.slot.proofs.Tests as slot
 use Rattle.memory.specs.Layout.{stride}
@@ -62,7 +62,7 @@ reserve-fits false n Q h k = k refl
 -- a client as the bytes of its slot
 unfoldable pub clientBytes : Sizes → Client → Bytes
 clientBytes z c =
-    phaseNumber (c .shut) ∷ kindNumber (c .kind) ∷ 0 ∷ 0 ∷ (subscriptionsBytes (c .patterns)
+    phaseNumber (c .shut) ∷ byteFor (c .kind) (c .hangsUp) ∷ 0 ∷ 0 ∷ (subscriptionsBytes (c .patterns)
     ++ (transactionBytes (z .recordRoom) (c .transaction)
     ++ queueBytes (z .queueRoom) (c .queue)))
 
@@ -109,7 +109,7 @@ module _ (z : Sizes) (small-queue : z .queueRoom ≤ 1048576) (small-record : z 
       )
       (omega arith)
 
-  holds : Holds R s (stride z) (phaseNumber (c .shut)) (kindNumber (c .kind)) p r q
+  holds : Holds R s (stride z) (phaseNumber (c .shut)) (byteFor (c .kind) (c .hangsUp)) p r q
   unfolding clientBytes
   holds =
       let lp : length p ≡ 4100 = length-subscriptions (c .patterns) (v .few) (v .patterns-valid) in
@@ -130,13 +130,13 @@ module _ (z : Sizes) (small-queue : z .queueRoom ≤ 1048576) (small-record : z 
   transaction-same : transactionOf r ≡ c .transaction
   transaction-same = transaction-means R (c .transaction) small-record (v .recording-valid)
 
-  rules : Fine R (stride z) (phaseNumber (c .shut)) (kindNumber (c .kind)) p r q
+  rules : Fine R (stride z) (phaseNumber (c .shut)) (byteFor (c .kind) (c .hangsUp)) p r q
   rules =
       record {
         sized = omega arith;
         taken-up = phase-used (c .shut);
         phase = phase-most (c .shut);
-        kind = kindNumber-most (c .kind);
+        kind = says-byteFor (c .kind) (c .hangsUp) .small;
         subscriptions = subscriptions-fine (c .patterns) (v .few) (v .patterns-valid);
         recording = transaction-fine R (c .transaction) small-record (v .recording-valid);
         queue = at-rest (z .queueRoom) reserve (c .queue) small-queue room .in-step;
@@ -147,9 +147,10 @@ module _ (z : Sizes) (small-queue : z .queueRoom ≤ 1048576) (small-record : z 
   client-means : slotOf R s ≡ used (clientWith inRows c)
   unfolding clientWith clientBytes
   client-means =
-      let i : image (phaseNumber (c .shut)) (kindNumber (c .kind)) p r q ≡ clientWith inRows c =
+      let i : image (phaseNumber (c .shut)) (byteFor (c .kind) (c .hangsUp)) p r q ≡ clientWith inRows c =
       rw (
-        kindNumbered-number (c .kind),
+        says-byteFor (c .kind) (c .hangsUp) .kind,
+        says-byteFor (c .kind) (c .hangsUp) .form,
         phase-shut (c .shut),
         patterns-same,
         transaction-same,

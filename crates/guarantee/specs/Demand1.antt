@@ -3,17 +3,18 @@
 -- that state them.
 use Prim.Native.Nat.{ℕ, _≤_}
 use mathlib.Core.Path.{_≡_}
-use mathlib.Core.List.{[], _∷_}
-use mathlib.Core.Bool.{true, false}
+use mathlib.Core.List.{[]}
+use mathlib.Core.Bool.{false}
 use mathlib.Core.Logic.{_⊎_}
 use lib.ListN.{length}
 use Rattle.octets.specs.Octets.{Bytes}
-use Rattle.protocol.specs.Terms.{number, error}
+use Rattle.protocol.specs.Terms.{number, Reading, whole}
 use Rattle.protocol.specs.declared.Kind.{Kind}
 use Rattle.protocol.specs.declared.Refusal.{Refusal}
-use Rattle.model.specs.State.{Sizes, off, used, slotAt}
+use Rattle.model.specs.State.{Sizes, used, slotAt}
 use Rattle.model.specs.Decision.{Call, feeds, takes, Silent}
-use Rattle.slot.specs.Image.{inBytes, ClientImage}
+use Rattle.model.specs.Refusals.{Leaves}
+use Rattle.slot.specs.Image.{ClientImage}
 use Rattle.memory.specs.Image.{imageOf}
 use Rattle.infod3.specs.Infod3.{infod3}
 use Rattle.refinement.specs.Contracts.{SetsUp, Serves, Takes}
@@ -37,9 +38,12 @@ pub data Called : Asked → Bytes → Bytes → ℕ → ℕ → Bytes → Bytes 
 abbrev pub Numbered : ℕ → Type 0
 Numbered n = (n ≤ 8) ⊎ ((r : Refusal) × (n ≡ number r))
 
--- A feed was refused and shut its client alone. The client was open, and its message fixes the kind; it has one ERROR
--- more, is shut, and has no patterns and no recording. The store, the sizes and every other slot are as they were.
-pub record ShutAlone (asked : Asked) (answer : ℕ) (m m′ : Bytes) : Type 0 where
+-- A feed was refused and touched its own client alone. The client was open; the feed took the first message of the
+-- input, which reads so and fixes the kind. What is left of the client is one of two (`Leaves`): shut, with no patterns
+-- and no transaction, as every binary client, every client of form 2 and every one after 102; or open, with its patterns
+-- and its transaction spoiled, or ended by a COMMIT. Either way it has one ERROR more. The store, the sizes and every
+-- other slot are as they were.
+pub record RefusedAlone (asked : Asked) (answer : ℕ) (m m′ : Bytes) : Type 0 where
   pub slot : ℕ
   pub input : Bytes
   pub fed : asked ≡ call (feeds slot input)
@@ -48,14 +52,13 @@ pub record ShutAlone (asked : Asked) (answer : ℕ) (m m′ : Bytes) : Type 0 wh
   pub client : ClientImage
   pub before : slotAt slot (imageOf m) ≡ used client
   pub was-open : client .shut ≡ false
+  pub consumed : ℕ
   pub kind : Kind
-  pub after : slotAt slot (imageOf m′) ≡ used (record {
-    kind = kind;
-    shut = true;
-    patterns = [];
-    transaction = off;
-    queue = inBytes .appended (client .queue) (infod3 .written kind (error reason) ∷ []);
-  })
+  pub reading : Reading
+  pub reads : infod3 .cut (client .kind) input ≡ whole consumed kind reading
+  pub left : ClientImage
+  pub leaves : Leaves infod3 (imageOf m .sizes .queueRoom) reading kind reason client left
+  pub after : slotAt slot (imageOf m′) ≡ used left
   pub store-kept : imageOf m′ .store ≡ imageOf m .store
   pub sizes-kept : imageOf m′ .sizes ≡ imageOf m .sizes
   pub others-kept : (j : ℕ) → (j ≡ slot → ⊥) → slotAt j (imageOf m′) ≡ slotAt j (imageOf m)
@@ -68,5 +71,6 @@ pub record Demand1 (asked : Asked) (m out : Bytes) (answer : ℕ) (m′ out′ :
   -- "A call refused with 2 to 8 alters no lent byte." Nor does one answered 1.
   pub unaltered : 1 ≤ answer → answer ≤ 8 → (m′ ≡ m) × (out′ ≡ out)
   -- "A command refused with 100 to 103 queues one ERROR, shuts that client, drops its patterns and its recording, and
-  -- touches neither store nor other clients."
-  pub refused : 100 ≤ answer → ShutAlone asked answer m m′
+  -- touches neither store nor other clients." Document 02, P2: "Demand 1's 'shuts' and 'drops' cover binary clients,
+  -- form 2, and 102."
+  pub refused : 100 ≤ answer → RefusedAlone asked answer m m′

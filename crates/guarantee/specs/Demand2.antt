@@ -28,7 +28,8 @@ pub record Demand2 (st : State) (x : Call) (r : Reply) (m′ : Bytes) : Type 0 w
   -- every number given back, and the bytes of a take, are the simple server's
   pub reply : r ≡ serve infod3 x st .reply
   -- "After each call the store, the patterns and each queue are exactly those of the paper's simple server": the
-  -- memory holds its next state, and with it the recordings, the kinds, and which slots are free, open and shut.
+  -- memory holds its next state, and with it the transactions, the kinds, the forms, and which slots are free,
+  -- open and shut.
   pub state : Represents m′ (serve infod3 x st .next)
   -- "what a step owes an open client is queued, once and in order, if it all fits; nothing else is but the ERRORs
   -- due": what is queued is what the call's log says, which for a step is `queuedByStep`, all that is owed or the

@@ -5,9 +5,8 @@ use mathlib.Core.List.{List, [], _∷_}
 use Prim.Native.Nat.{ℕ}
 use native.Mathlib.Omega.{arith}
 use Rattle.protocol.specs.Terms.{Protocol}
-use Rattle.protocol.specs.declared.Kind.{Kind}
 use Rattle.model.specs.Store.{Store}
-use Rattle.model.specs.State.{Sizes, Client, Slot, free, used, State, emptyServer, slotAt, newClient}
+use Rattle.model.specs.State.{Sizes, Opening, Client, Slot, free, used, State, emptyServer, slotAt, newClient}
 use Rattle.model.specs.Decision.{Call, Decision}
 use Rattle.model.specs.Calls.{decide, serve, afterCalls}
 use Rattle.model.specs.Log.{Log, newLog}
@@ -15,7 +14,7 @@ use Rattle.model.specs.History.{Past, History, pastOf, closedBy, history
 use Rattle.model.specs.Invariant.{Each}
 use Rattle.model.proofs.Slots.{slotAt-empty}
 use Rattle.model.proofs.Subscriptions.{each-append}
-use Rattle.model.proofs.Outcomes.{Outcome, turned-away, opening, consuming, refusing, running, giving}
+use Rattle.model.proofs.Outcomes.{Outcome, turned-away, opening, consuming, refusing, slipping, running, giving}
 use Rattle.model.proofs.Outcomes.{closing, outcome}
 use Rattle.model.proofs.Changes.{Change, SlotChange, vacant, closed-now, opened-now, changed, slot-change}
 
@@ -55,7 +54,7 @@ module _ (protocol : Protocol) where
   -- what the calls keep: G of the state, P of a client, and P gives R when the client is closed
   pub record Preserved (G : State → Type 0) (P : OfClient) (R : OfPast) : Type 0 where
     pub state-next : (st : State) (x : Call) → G st → G (serve protocol x st .next)
-    pub client-new : (s : Store) (k : Kind) → P s (newClient k) newLog
+    pub client-new : (s : Store) (o : Opening) → P s (newClient o) newLog
     pub client-next : (st : State) → G st → (j : ℕ) (c : Client) (l : Log) → slotAt j st ≡ used c → P (st .store) c l
         → {x : Call} {s : Store} {d : Client} {m : Log} → Change protocol st c l x s d m → P s d m
     pub client-closed : (s : Store) (c : Client) (l : Log) → P s c l → R c l
@@ -81,7 +80,8 @@ module _ (protocol : Protocol) where
     closed-after t a x d (turned-away _ n p q u) = tt
     closed-after t a x d (opening i form k h e w) = tt
     closed-after t a x d (consuming i bs n k y c r sp rec) = tt
-    closed-after t a x d (refusing i bs n k y c r sp why) = tt
+    closed-after t a x d (refusing i bs n k y c r sp why shuts) = tt
+    closed-after t a x d (slipping i bs n k y c r b sp why stays fits left) = tt
     closed-after t a x d (running i bs n k y c xs sp run ok) = tt
     closed-after t a x d (giving i len c m w q h) = tt
     closed-after t a x d (closing i c w) =

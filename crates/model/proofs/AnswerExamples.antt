@@ -1,4 +1,4 @@
--- The simple server on small cases, by computation: recordings, and the table of answers.
+-- The simple server on small cases, by computation: recordings, and the table of answers. Streams become framed here.
 use mathlib.Core.Path.{_≡_, refl}
 use mathlib.Core.List.{List, [], _∷_, _++_, map}
 use mathlib.Core.Option.{some, none}

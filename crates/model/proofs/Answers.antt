@@ -2,27 +2,32 @@
 -- refused, leaves.
 use mathlib.Core.Path.{_≡_, refl, sym, ap, _∙_}
 use mathlib.Core.List.{[], _∷_}
-use mathlib.Core.Bool.{Bool, true, false}
+use mathlib.Core.Bool.{Bool, true, false, cond}
 use mathlib.Core.Logic.{_⊎_, inl, inr}
 use Prim.Native.Nat.{ℕ, _≤_}
 use native.Mathlib.Omega.{arith}
+use lib.Dec.{eqb}
 use lib.ListN.{length}
 use borrow.Author.Tests.{eq-eqb, ne-eqb}
 use Rattle.octets.specs.Octets.{Bytes}
-use Rattle.protocol.specs.Terms.{number, error, Protocol}
+use Rattle.protocol.specs.Terms.{number, error, Reading, whole, Protocol}
 use Rattle.protocol.specs.declared.Kind.{Kind}
 use Rattle.protocol.specs.declared.Refusal.{Refusal}
 use Rattle.protocol.specs.declared.Refusal.the-variants.{Unknown, Parameter, Room, State as BadState}
 use Rattle.model.specs.Queueing.{Queueing}
-use Rattle.model.specs.State.{off, ClientOf, used, StateOf, slotAt}
-use Rattle.model.specs.State.{withKind, withTransaction}
-use Rattle.model.specs.Queue.{shutBy}
-use Rattle.model.specs.Events.{idle, refused, onClient, slotAfterEvent, storeAfterEvent, afterEvent}
+use Rattle.model.specs.Store.{Store}
+use Rattle.model.specs.State.{Transaction, off, ClientOf, SlotOf, used, StateOf, slotAt}
+use Rattle.model.specs.State.{withKind, withTransaction, withQueue}
+use Rattle.model.specs.Queue.{shutBy, withError, fitsAll}
+use Rattle.model.specs.Events.{Event, idle, refused, slipped, onClient, slotAfterEvent, storeAfterEvent}
+use Rattle.model.specs.Events.{afterEvent}
+use Rattle.model.specs.Feed.{staysOpen}
+use Rattle.model.specs.Refusals.{Spoils, Leaves, shut-alone, stayed-alone}
 use Rattle.model.specs.Decision.{Call, feeds, takes, Silent, Decision, unaltered}
 use Rattle.model.specs.Calls.{decide, serve}
 use Rattle.model.specs.Lawful.{Lawful}
 use Rattle.model.proofs.Slots.{SlotAfter, inside, outside, slot-after, slot-after-used, after-idle}
-use Rattle.model.proofs.Outcomes.{Outcome, turned-away, opening, consuming, refusing, running, giving}
+use Rattle.model.proofs.Outcomes.{Outcome, turned-away, opening, consuming, refusing, slipping, running, giving}
 use Rattle.model.proofs.Outcomes.{closing, outcome}
 
 pub number-large : (r : Refusal) → 100 ≤ number r
@@ -32,22 +37,14 @@ number-large Room = omega arith
 number-large BadState = omega arith
 
 module _ (protocol : Protocol) {queueing : Queueing} where
-  -- What a refusal leaves: the client c of the slot i, whose message fixes the kind k, has one ERROR more, is shut
-  -- and has no patterns and no recording; nothing else is touched.
-  pub record ShutAlone (i : ℕ) (k : Kind) (r : Refusal) (c : ClientOf queueing)
-      (old new : StateOf queueing) : Type 0 where
+  -- What a refusal leaves: the client of the slot i, which was open, has become d; nothing else is touched.
+  pub record TouchedAlone (i : ℕ) (c d : ClientOf queueing) (old new : StateOf queueing) : Type 0 where
     pub store-kept : new .store ≡ old .store
     pub sizes-kept : new .sizes ≡ old .sizes
     pub others-kept : (j : ℕ) → (j ≡ i → ⊥) → slotAt j new ≡ slotAt j old
     pub was-open : c .shut ≡ false
     pub before : slotAt i old ≡ used c
-    pub after : slotAt i new ≡ used (record {
-      kind = k;
-      shut = true;
-      patterns = [];
-      transaction = off;
-      queue = queueing .appended (c .queue) (protocol .written k (error r) ∷ []);
-    })
+    pub after : slotAt i new ≡ used d
 
   module _ (st : StateOf queueing) where
     -- ---- answers 1 to 8
@@ -57,7 +54,8 @@ module _ (protocol : Protocol) {queueing : Queueing} where
     not-altered x d (turned-away _ n h l u) p q = refl
     not-altered x d (opening i form k h e w) p q = absurd (omega arith)
     not-altered x d (consuming i bs n k y c r sp rec) p q = absurd (omega arith)
-    not-altered x d (refusing i bs n k y c r sp why) p q = absurd (omega (arith, number-large r))
+    not-altered x d (refusing i bs n k y c r sp why shuts) p q = absurd (omega (arith, number-large r))
+    not-altered x d (slipping i bs n k y c r t sp why stays fits left) p q = absurd (omega (arith, number-large r))
     not-altered x d (running i bs n k y c xs sp run ok) p q = absurd (omega arith)
     not-altered x d (giving i len c m w e h) p q = absurd (omega arith)
     not-altered x d (closing i c w) p q = absurd (omega arith)
@@ -78,57 +76,115 @@ module _ (protocol : Protocol) {queueing : Queueing} where
 
     -- ---- answers 100 to 103
 
-    pub shuts-alone : (i : ℕ) (k : Kind) (r : Refusal) (c : ClientOf queueing) → c .shut ≡ false → slotAt i st ≡ used c
-        → ShutAlone i k r c st (afterEvent protocol (refused i k r) st)
-    unfolding afterEvent storeAfterEvent slotAfterEvent onClient shutBy withTransaction withKind
-    shuts-alone i k r c o w =
+    -- an event that leaves the store and changes the client of one slot alone
+    record Own (i : ℕ) (e : Event) (f : ClientOf queueing → ClientOf queueing) : Type 0 where
+      pub of-store : (s : Store) → storeAfterEvent e s ≡ s
+      pub of-slot : (Q : ℕ) (s : Store) (j : ℕ) (x : SlotOf queueing)
+          → slotAfterEvent protocol Q e s j x ≡ cond (eqb j i) (onClient f x) x
+
+    touches-alone : (i : ℕ) (e : Event) (f : ClientOf queueing → ClientOf queueing) → Own i e f
+        → (c : ClientOf queueing) → c .shut ≡ false → slotAt i st ≡ used c
+        → TouchedAlone i c (f c) st (afterEvent protocol e st)
+    unfolding afterEvent onClient
+    touches-alone i e f own c o w =
         record {
-          store-kept = refl;
+          store-kept = own .of-store (st .store);
           sizes-kept = refl;
-          others-kept = λ j n. other j n (slot-after protocol (refused i k r) st j);
+          others-kept = λ j n. other j n (slot-after protocol e st j);
           was-open = o;
           before = w;
-          after = slot-after-used protocol (refused i k r) st i c w ∙ rw (eq-eqb i i refl);
+          after = slot-after-used protocol e st i c w
+              ∙ (own .of-slot (st .sizes .queueRoom) (st .store) i (used c) ∙ rw (eq-eqb i i refl));
         }
       where
-        other : (j : ℕ) → (j ≡ i → ⊥) → SlotAfter protocol (refused i k r) st j
-            → slotAt j (afterEvent protocol (refused i k r) st) ≡ slotAt j st
-        other j n (inside e) = e ∙ rw (ne-eqb j i n)
-        other j n (outside e f) = e ∙ sym f
+        other : (j : ℕ) → (j ≡ i → ⊥) → SlotAfter protocol e st j → slotAt j (afterEvent protocol e st) ≡ slotAt j st
+        other j n (inside h) =
+            h ∙ (own .of-slot (st .sizes .queueRoom) (st .store) j (slotAt j st) ∙ rw (ne-eqb j i n))
+        other j n (outside h g) = h ∙ sym g
 
-    -- a feed refused: its slot, the kind and the refusal, the client, and what is left
+    own-refused : (i : ℕ) (k : Kind) (r : Refusal)
+        → Own i (refused i k r) (λ c. shutBy (protocol .written) r (withTransaction off (withKind k c)))
+    unfolding storeAfterEvent slotAfterEvent
+    own-refused i k r = record { of-store = λ s. refl; of-slot = λ Q s j x. refl }
+
+    own-slipped : (i : ℕ) (k : Kind) (r : Refusal) (t : Transaction)
+        → Own i (slipped i k r t) (λ c. withError (protocol .written) r (withTransaction t (withKind k c)))
+    unfolding storeAfterEvent slotAfterEvent
+    own-slipped i k r t = record { of-store = λ s. refl; of-slot = λ Q s j x. refl }
+
+    -- a feed refused: its slot, the refusal, the client, the message that it took, and what is left of the client
     pub record RefusedAlone (x : Call) (answer : ℕ) (new : StateOf queueing) : Type 0 where
       pub slot : ℕ
       pub input : Bytes
       pub fed : x ≡ feeds slot input
-      pub kind-now : Kind
       pub reason : Refusal
       pub numbered : answer ≡ number reason
       pub client : ClientOf queueing
-      pub leaves : ShutAlone slot kind-now reason client st new
+      pub consumed : ℕ
+      pub kind-now : Kind
+      pub reading : Reading
+      pub reads : protocol .cut (client .kind) input ≡ whole consumed kind-now reading
+      pub left : ClientOf queueing
+      pub leaves : Leaves protocol (st .sizes .queueRoom) reading kind-now reason client left
+      pub touched : TouchedAlone slot client left st new
+
+    left-shut : (x : Reading) (k : Kind) (r : Refusal) (c : ClientOf queueing) → staysOpen k (c .hangsUp) r ≡ false
+        → Leaves protocol (st .sizes .queueRoom) x k r c
+        (shutBy (protocol .written) r (withTransaction off (withKind k c)))
+    unfolding shutBy withTransaction withKind
+    left-shut x k r c shuts = shut-alone shuts
+
+    left-open : (x : Reading) (k : Kind) (r : Refusal) (c : ClientOf queueing) (t : Transaction) → c .shut ≡ false
+        → staysOpen k (c .hangsUp) r ≡ true
+        → fitsAll protocol (st .sizes .queueRoom) (error r ∷ []) (withKind k c) ≡ true → Spoils x (c .transaction) t
+        → Leaves protocol (st .sizes .queueRoom) x k r c
+        (withError (protocol .written) r (withTransaction t (withKind k c)))
+    unfolding withError withQueue withTransaction withKind fitsAll
+    left-open x k r c t o stays fits left = rw o (stayed-alone t stays fits left)
 
     refused-by : (x : Call) (d : Decision) → Outcome protocol st x d → 100 ≤ d .reply .answer
         → RefusedAlone x (d .reply .answer) (afterEvent protocol (d .event) st)
     refused-by x d (turned-away _ n p q u) l = absurd (omega arith)
     refused-by x d (opening i form k h e w) l = absurd (omega arith)
     refused-by x d (consuming i bs n k y c r sp rec) l = absurd (omega arith)
-    refused-by x d (refusing i bs n k y c r sp why) l =
+    refused-by x d (refusing i bs n k y c r sp why shuts) l =
         record {
           slot = i;
           input = bs;
           fed = refl;
-          kind-now = k;
           reason = r;
           numbered = refl;
           client = c;
-          leaves = shuts-alone i k r c (sp .is-open) (sp .at);
+          consumed = n;
+          kind-now = k;
+          reading = y;
+          reads = sp .cuts;
+          left = _;
+          leaves = left-shut y k r c shuts;
+          touched = touches-alone i (refused i k r) _ (own-refused i k r) c (sp .is-open) (sp .at);
+        }
+    refused-by x d (slipping i bs n k y c r t sp why stays fits left) l =
+        record {
+          slot = i;
+          input = bs;
+          fed = refl;
+          reason = r;
+          numbered = refl;
+          client = c;
+          consumed = n;
+          kind-now = k;
+          reading = y;
+          reads = sp .cuts;
+          left = _;
+          leaves = left-open y k r c t (sp .is-open) stays fits left;
+          touched = touches-alone i (slipped i k r t) _ (own-slipped i k r t) c (sp .is-open) (sp .at);
         }
     refused-by x d (running i bs n k y c xs sp run ok) l = absurd (omega arith)
     refused-by x d (giving i len c m w e h) l = absurd (omega arith)
     refused-by x d (closing i c w) l = absurd (omega arith)
 
-    -- A command refused with 100 to 103 queues one ERROR, shuts that client, drops its patterns and its recording,
-    -- and touches neither store nor other clients.
+    -- A command refused with 100 to 103 queues one ERROR, shuts that client, drops its patterns and its recording, or
+    -- leaves it open, and touches neither store nor other clients.
     pub refused-alone : (x : Call) → 100 ≤ serve protocol x st .reply .answer
         → RefusedAlone x (serve protocol x st .reply .answer) (serve protocol x st .next)
     unfolding serve
@@ -141,7 +197,8 @@ module _ (protocol : Protocol) {queueing : Queueing} where
     answered x d (turned-away _ n p q u) = inl q
     answered x d (opening i form k h e w) = inl (omega arith)
     answered x d (consuming i bs n k y c r sp rec) = inl (omega arith)
-    answered x d (refusing i bs n k y c r sp why) = inr (r, refl)
+    answered x d (refusing i bs n k y c r sp why shuts) = inr (r, refl)
+    answered x d (slipping i bs n k y c r t sp why stays fits left) = inr (r, refl)
     answered x d (running i bs n k y c xs sp run ok) = inl (omega arith)
     answered x d (giving i len c m w e h) = inl (omega arith)
     answered x d (closing i c w) = inl (omega arith)
@@ -150,7 +207,9 @@ module _ (protocol : Protocol) {queueing : Queueing} where
     unbroken-by x d (turned-away _ n p q u) = u
     unbroken-by x d (opening i form k h e w) = omega arith
     unbroken-by x d (consuming i bs n k y c r sp rec) = omega arith
-    unbroken-by x d (refusing i bs n k y c r sp why) = λ e. absurd (omega (arith, number-large r))
+    unbroken-by x d (refusing i bs n k y c r sp why shuts) = λ e. absurd (omega (arith, number-large r))
+    unbroken-by x d (slipping i bs n k y c r t sp why stays fits left) =
+        λ e. absurd (omega (arith, number-large r))
     unbroken-by x d (running i bs n k y c xs sp run ok) = omega arith
     unbroken-by x d (giving i len c m w e h) = omega arith
     unbroken-by x d (closing i c w) = omega arith
@@ -172,7 +231,9 @@ module _ (protocol : Protocol) {queueing : Queueing} where
         → Outcome protocol st (feeds i bs) d → d .reply .count ≤ length bs
     fed-count valid law i bs d (turned-away _ n p q u) = omega arith
     fed-count valid law i bs d (consuming _ _ n k y c r sp rec) = law .consumes (c .kind) k bs n y (sp .cuts)
-    fed-count valid law i bs d (refusing _ _ n k y c r sp why) = law .consumes (c .kind) k bs n y (sp .cuts)
+    fed-count valid law i bs d (refusing _ _ n k y c r sp why shuts) = law .consumes (c .kind) k bs n y (sp .cuts)
+    fed-count valid law i bs d (slipping _ _ n k y c r t sp why stays fits left) =
+        law .consumes (c .kind) k bs n y (sp .cuts)
     fed-count valid law i bs d (running _ _ n k y c xs sp run ok) = law .consumes (c .kind) k bs n y (sp .cuts)
 
     -- No more is consumed than was fed.
@@ -186,7 +247,8 @@ module _ (protocol : Protocol) {queueing : Queueing} where
     given-none x h d (turned-away _ n p q u) = refl
     given-none x h d (opening i form k l e w) = refl
     given-none x h d (consuming i bs n k y c r sp rec) = refl
-    given-none x h d (refusing i bs n k y c r sp why) = refl
+    given-none x h d (refusing i bs n k y c r sp why shuts) = refl
+    given-none x h d (slipping i bs n k y c r t sp why stays fits left) = refl
     given-none x h d (running i bs n k y c xs sp run ok) = refl
     given-none x h d (giving i len c m w e l) = absurd h
     given-none x h d (closing i c w) = refl

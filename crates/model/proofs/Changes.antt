@@ -15,18 +15,20 @@ use Rattle.protocol.specs.declared.Refusal.{Refusal}
 use Rattle.model.specs.Store.{Store}
 use Rattle.model.specs.Step.{storeAfterAll, refusesAny}
 use Rattle.model.specs.Queueing.{first}
-use Rattle.model.specs.State.{Transaction, off, Client, Slot, free, used, State, slotAt, newClient}
+use Rattle.model.specs.State.{Opening, Transaction, off, Client, Slot, free, used, State, slotAt, newClient}
 use Rattle.model.specs.State.{withKind, withTransaction}
-use Rattle.model.specs.Queue.{afterTake, shutBy, afterStep}
-use Rattle.model.specs.Events.{opened, closed, took, consumed, refused, stepped}
+use Rattle.model.specs.Queue.{afterTake, shutBy, withError, afterStep}
+use Rattle.model.specs.Events.{opened, closed, took, consumed, refused, slipped, stepped}
 use Rattle.model.specs.Events.{onClient, slotAfterEvent, storeAfterEvent, afterEvent}
-use Rattle.model.specs.Decision.{Call, opens, feeds, takes, closes, Decision, unaltered, done, refusal}
+use Rattle.model.specs.Decision.{Call, opens, feeds, takes, closes, Decision, unaltered, done, refusal, slip}
+use Rattle.model.specs.Feed.{contextOf, staysOpen, errorFits}
 use Rattle.model.specs.Calls.{decide}
 use Rattle.model.specs.Log.{Log, newLog, logQueued, logTaken, logAfterStep, onLog, logAfterEvent, logGiven}
 use Rattle.model.proofs.Tests.{either}
 use Rattle.model.proofs.Slots.{SlotAfter, inside, outside, slot-after, slot-after-used, after-idle}
+use Rattle.model.specs.Refusals.{Spoils}
 use Rattle.model.proofs.Outcomes.{Runs, Records, Speaks, RefusalCause}
-use Rattle.model.proofs.Outcomes.{Outcome, turned-away, opening, consuming, refusing, running, giving}
+use Rattle.model.proofs.Outcomes.{Outcome, turned-away, opening, consuming, refusing, slipping, running, giving}
 use Rattle.model.proofs.Outcomes.{closing, outcome}
 
 -- a queue with a first message
@@ -46,6 +48,11 @@ module _ (protocol : Protocol) (st : State) where
     was-refused : (i : ℕ) (bs : Bytes) (n : ℕ) (k : Kind) (x : Reading) (r : Refusal)
         → Speaks protocol st i bs n k x c → RefusalCause protocol st c x r
         → Change c l (feeds i bs) (st .store) (shutBy (protocol .written) r (withTransaction off (withKind k c)))
+        (logQueued (error r ∷ []) l)
+    stayed : (i : ℕ) (bs : Bytes) (n : ℕ) (k : Kind) (x : Reading) (r : Refusal) (t : Transaction)
+        → Speaks protocol st i bs n k x c → RefusalCause protocol st c x r → staysOpen k (c .hangsUp) r ≡ true
+        → errorFits (contextOf protocol st i) k c r ≡ true → Spoils x (c .transaction) t
+        → Change c l (feeds i bs) (st .store) (withError (protocol .written) r (withTransaction t (withKind k c)))
         (logQueued (error r ∷ []) l)
     ran : (i : ℕ) (bs : Bytes) (n : ℕ) (k : Kind) (x : Reading) (xs : List Action)
         → Speaks protocol st i bs n k x c → Runs x (c .transaction) xs
@@ -76,7 +83,7 @@ module _ (protocol : Protocol) (st : State) where
       vacant : slotAt j st ≡ free → slotAt j (next d) ≡ free → SlotChange x d
       closed-now : (c : Client) → slotAt j st ≡ used c → slotAt j (next d) ≡ free → d .event ≡ closed j
           → SlotChange x d
-      opened-now : (k : Kind) → slotAt j st ≡ free → slotAt j (next d) ≡ used (newClient k) → logThen x d ≡ newLog
+      opened-now : (k : Opening) → slotAt j st ≡ free → slotAt j (next d) ≡ used (newClient k) → logThen x d ≡ newLog
           → SlotChange x d
       changed : (c e : Client) → slotAt j st ≡ used c → slotAt j (next d) ≡ used e
           → Change c (f j) x (next d .store) e (logThen x d) → SlotChange x d
@@ -106,7 +113,7 @@ module _ (protocol : Protocol) (st : State) where
     by-idle x n h (used c) w =
         changed c c w (ap (slotAt j) (after-idle protocol st) ∙ w) (rw (given-none x n (f j) h) (kept x))
 
-    by-opening : (i form : ℕ) (k : Kind) → slotAt i st ≡ free → (s : Slot) → slotAt j st ≡ s
+    by-opening : (i form : ℕ) (k : Opening) → slotAt i st ≡ free → (s : Slot) → slotAt j st ≡ s
         → SlotChange (opens i form) (done 0 [] (opened i k))
     unfolding logGiven logAfterEvent slotAfterEvent storeAfterEvent afterEvent
     by-opening i form k v s w = either (eqb j i) here (λ b. elsewhere b s w)
@@ -175,6 +182,20 @@ module _ (protocol : Protocol) (st : State) where
           (rw (b, w, h) (was-refused i bs n k x r sp why)))
           (λ b. changed e e w (slot-after-used protocol (refused i k r) st j e w ∙ rw b) (rw b (kept _)))
 
+      by-slipping : (r : Refusal) (t : Transaction) → RefusalCause protocol st c x r
+          → staysOpen k (c .hangsUp) r ≡ true → errorFits (contextOf protocol st i) k c r ≡ true
+          → Spoils x (c .transaction) t → (s : Slot) → slotAt j st ≡ s → SlotChange (feeds i bs) (slip n i k r t)
+      unfolding logGiven logAfterEvent slotAfterEvent storeAfterEvent afterEvent onClient onLog
+      by-slipping r t why stays fits left free w =
+          from-free (feeds i bs) (slip n i k r t) w (either (eqb j i) (λ b. rw b) (λ b. rw b))
+      by-slipping r t why stays fits left (used e) w =
+          either (eqb j i)
+          (λ b. let h : e ≡ c = same-client i c e b (sp .at) w in
+          changed e (withError (protocol .written) r (withTransaction t (withKind k e))) w
+          (slot-after-used protocol (slipped i k r t) st j e w ∙ rw b)
+          (rw (b, w, h) (stayed i bs n k x r t sp why stays fits left)))
+          (λ b. changed e e w (slot-after-used protocol (slipped i k r t) st j e w ∙ rw b) (rw b (kept _)))
+
       by-running : (xs : List Action) → Runs x (c .transaction) xs
           → refusesAny (st .sizes .storeRoom) xs (st .store) (c .patterns) ≡ false
           → (s : Slot) → slotAt j st ≡ s → SlotChange (feeds i bs) (done n [] (stepped i k xs))
@@ -195,7 +216,9 @@ module _ (protocol : Protocol) (st : State) where
     by-outcome x d (turned-away _ n p q u) = by-idle x n p (slotAt j st) refl
     by-outcome x d (opening i form k h e v) = by-opening i form k v (slotAt j st) refl
     by-outcome x d (consuming i bs n k y c r sp rec) = by-consuming i bs n k y c sp r rec (slotAt j st) refl
-    by-outcome x d (refusing i bs n k y c r sp why) = by-refusing i bs n k y c sp r why (slotAt j st) refl
+    by-outcome x d (refusing i bs n k y c r sp why shuts) = by-refusing i bs n k y c sp r why (slotAt j st) refl
+    by-outcome x d (slipping i bs n k y c r t sp why stays fits left) =
+        by-slipping i bs n k y c sp r t why stays fits left (slotAt j st) refl
     by-outcome x d (running i bs n k y c xs sp run ok) = by-running i bs n k y c sp xs run ok (slotAt j st) refl
     by-outcome x d (giving i len c m v q h) =
         let f = first-some (c .queue) m q in

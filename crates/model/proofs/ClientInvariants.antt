@@ -15,21 +15,24 @@ use Rattle.protocol.specs.declared.Refusal.{Refusal}
 use Rattle.protocol.specs.declared.Refusal.the-variants.{Room}
 use Rattle.model.specs.Store.{Store}
 use Rattle.model.specs.Step.{patternsAfterAll, owesAll}
-use Rattle.model.specs.State.{Sizes, Transaction, off, begun, Client, newClient, recordingCharge, recordingFits}
+use Rattle.model.specs.State.{Sizes, Opening, Transaction, off, begun, spoiled, afterSlip, Client, newClient}
+use Rattle.model.specs.State.{recordingCharge, recordingFits}
 use Rattle.model.specs.State.{withKind, withPatterns, withTransaction, withQueue}
 use Rattle.model.specs.Queueing.{queueCharge, rest}
-use Rattle.model.specs.Queue.{queueFits, afterTake, encoded, shutBy}
+use Rattle.model.specs.Queue.{queueFits, afterTake, encoded, shutBy, withError}
 use Rattle.model.specs.Queue.{withMessages}
 use Rattle.model.specs.Queue.{fitsAll, afterStep}
 use Rattle.model.specs.Lawful.{Fixes, ValidAction, Lawful}
 use Rattle.model.specs.Invariant.{Each, Distinct, ValidRecording, ClientInvariant}
-use Rattle.model.proofs.Tests.{never, off-not-begun}
+use Rattle.model.proofs.Tests.{never}
+use Rattle.model.proofs.Transactions.{off-not-begun, spoiled-not-begun}
 use Rattle.model.proofs.Subscriptions.{each-append}
 use Rattle.model.proofs.Queues.{queueCharge-append, encoded-append, owed, StepOutcome, was-shut, got-all}
 use Rattle.model.proofs.Queues.{got-none, step-outcome}
 use Rattle.model.proofs.Limits.{PatternLimits}
 use Rattle.model.proofs.Outcomes.{Runs, at-once, committed}
-use Rattle.model.proofs.Outcomes.{Records, blank-line, beginning, nothing-to-commit, recorded}
+use Rattle.model.proofs.Outcomes.{Records, blank-line, beginning, nothing-to-commit, recorded, does-nothing}
+use Rattle.model.specs.Refusals.{Spoils, by-invalid, by-begin, by-commit}
 
 module _ (protocol : Protocol) (valid : Bytes → Bool) where
   -- ---- recordings
@@ -49,6 +52,20 @@ module _ (protocol : Protocol) (valid : Bytes → Bool) where
   none-recorded : (R : ℕ) → ValidRecordings R off
   none-recorded R xs e = off-not-begun xs e
 
+  none-in-spoiled : (R : ℕ) → ValidRecordings R spoiled
+  none-in-spoiled R xs e = spoiled-not-begun xs e
+
+  -- a slip leaves nothing recorded
+  none-after-slip : (R : ℕ) (t : Transaction) → ValidRecordings R (afterSlip t)
+  none-after-slip R off = none-recorded R
+  none-after-slip R (begun xs) = none-in-spoiled R
+  none-after-slip R spoiled = none-in-spoiled R
+
+  pub spoils-valid : (R : ℕ) (x : Reading) (t new : Transaction) → Spoils x t new → ValidRecordings R new
+  spoils-valid R x t new (by-invalid r _) = none-after-slip R t
+  spoils-valid R x t new (by-begin _) = none-after-slip R t
+  spoils-valid R x t new by-commit = none-recorded R
+
   just-begun : (R : ℕ) → ValidRecording protocol valid R []
   unfolding recordingFits recordingCharge
   just-begun R = record { fits = rw (leb·zero R); actions = tt }
@@ -65,6 +82,7 @@ module _ (protocol : Protocol) (valid : Bytes → Bool) where
         actions = each-append (ValidAction valid) xs (a ∷ []) (g xs refl .actions)
             (h a refl, tt);
       })
+  records-valid R x r new (does-nothing a) h g = g
 
   -- ---- clients
 
@@ -72,7 +90,7 @@ module _ (protocol : Protocol) (valid : Bytes → Bool) where
     abbrev Good : Client → Type 0
     Good c = ClientInvariant protocol valid z c
 
-    pub invariant-newClient : (k : Kind) → 64 ≤ z .queueRoom → Good (newClient k)
+    pub invariant-newClient : (k : Opening) → 64 ≤ z .queueRoom → Good (newClient k)
     unfolding newClient queueCharge Distinct
     invariant-newClient k h =
         record {
@@ -172,6 +190,40 @@ module _ (protocol : Protocol) (valid : Bytes → Bool) where
           stream-empty = λ p. absurd (n p);
         }
 
+    -- more messages, which fit, in the queue of an open client
+    more-queued : (ms : List Message) (c : Client) → Good c
+        → fitsAll protocol (z .queueRoom) ms c ≡ true
+        → (queueCharge (c .queue ++ encoded protocol (c .kind) ms) + 64 ≤ z .queueRoom)
+        × ((all : List Message) × (c .queue ++ encoded protocol (c .kind) ms ≡ encoded protocol (c .kind) all))
+    unfolding fitsAll queueFits
+    more-queued new c g f =
+        let ms : List Message = g .queue-encoded .0 in (
+          leb-true _ _ f,
+          (
+            ms ++ new,
+            rw (encoded-append protocol (c .kind) ms new) (ap
+                (λ (q : List Bytes). q ++ encoded protocol (c .kind) new) (g .queue-encoded .1)),
+          ),
+        )
+
+    -- an ERROR more, of a client that stays open
+    pub invariant-withError : (r : Refusal) (c : Client) → Good c → c .shut ≡ false → (c .kind ≡ Stream → ⊥)
+        → fitsAll protocol (z .queueRoom) (error r ∷ []) c ≡ true → Good (withError (protocol .written) r c)
+    unfolding withError withQueue
+    invariant-withError r c g o n f =
+        let q = more-queued (error r ∷ []) c g f in
+        record {
+          few = g .few;
+          distinct = g .distinct;
+          patterns-valid = g .patterns-valid;
+          recording-valid = g .recording-valid;
+          queue-room = omega (arith, q .0);
+          open-room = λ p. q .0;
+          queue-encoded = q .1;
+          shut-empty = λ p. never (sym p ∙ o);
+          stream-empty = λ p. absurd (n p);
+        }
+
     module _ (mine : Bool) (xs : List Action) (s : Store) (c : Client) (g : Good c) where
       -- a client whose kind is not fixed is owed nothing
       abbrev pub Calm : Type 0
@@ -184,23 +236,17 @@ module _ (protocol : Protocol) (valid : Bytes → Bool) where
           → fitsAll protocol (z .queueRoom) (owed protocol (z .queueRoom) mine xs s c) c ≡ true
           → Good (withMessages protocol (owed protocol (z .queueRoom) mine xs s c)
           (patternsAfterAll mine xs (c .patterns)) c)
-      unfolding fitsAll queueFits withMessages withPatterns withQueue
+      unfolding withMessages withPatterns withQueue
       all-owed calm l o f =
-          let new : List Message = owesAll protocol mine xs s (c .patterns) in
-          let h : queueCharge (c .queue ++ encoded protocol (c .kind) new) + 64 ≤ z .queueRoom = leb-true _ _ f in
-          let ms : List Message = g .queue-encoded .0 in
+          let q = more-queued (owesAll protocol mine xs s (c .patterns)) c g f in
           record {
             few = l .few;
             distinct = l .distinct;
             patterns-valid = l .valid-patterns;
             recording-valid = g .recording-valid;
-            queue-room = omega arith;
-            open-room = λ p. h;
-            queue-encoded = (
-              ms ++ new,
-              rw (encoded-append protocol (c .kind) ms new) (ap
-                  (λ (q : List Bytes). q ++ encoded protocol (c .kind) new) (g .queue-encoded .1)),
-            );
+            queue-room = omega (arith, q .0);
+            open-room = λ p. q .0;
+            queue-encoded = q .1;
             shut-empty = λ p. never (sym p ∙ o);
             stream-empty = λ p. (rw (g .stream-empty p .0, calm p .0), calm p .1, g .stream-empty p .2);
           }

@@ -23,7 +23,7 @@ use Rattle.model.specs.Invariant.{Each}
 use Rattle.model.proofs.Tests.{either}
 use Rattle.model.proofs.Slots.{slot-after-used}
 use Rattle.model.proofs.Subscriptions.{each-append}
-use Rattle.model.proofs.Outcomes.{Outcome, turned-away, opening, consuming, refusing, running, giving}
+use Rattle.model.proofs.Outcomes.{Outcome, turned-away, opening, consuming, refusing, slipping, running, giving}
 use Rattle.model.proofs.Outcomes.{closing, outcome}
 use Rattle.model.proofs.Outcomes.{Speaks}
 use Rattle.model.proofs.Changes.{SlotChange, vacant, closed-now, opened-now, changed, slot-change}
@@ -53,7 +53,8 @@ module _ (protocol : Protocol) (q : List Message) (j : ℕ) (old : List Past) wh
   others-closed st f e x d (turned-away _ n p r u) g = tt
   others-closed st f e x d (opening i form k h b w) g = tt
   others-closed st f e x d (consuming i bs n k y c r sp rec) g = tt
-  others-closed st f e x d (refusing i bs n k y c r sp why) g = tt
+  others-closed st f e x d (refusing i bs n k y c r sp why shuts) g = tt
+  others-closed st f e x d (slipping i bs n k y c r t sp why stays fits left) g = tt
   others-closed st f e x d (running i bs n k y c xs sp run ok) g = tt
   others-closed st f e x d (giving i len c m w b h) g = tt
   others-closed st f e x d (closing i c w) g =

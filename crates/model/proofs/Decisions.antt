@@ -15,11 +15,13 @@ use Rattle.protocol.specs.declared.Refusal.{Refusal}
 use Rattle.protocol.specs.declared.Refusal.the-variants.{Room, State as BadState}
 use Rattle.model.specs.Step.{refusesAny}
 use Rattle.model.specs.Queueing.{Queueing}
-use Rattle.model.specs.State.{off, begun, ClientOf, free, used, StateOf, slotAt, recordingFits}
+use Rattle.model.specs.State.{Opening, Transaction, off, begun, spoiled, afterSlip, recordingFits}
+use Rattle.model.specs.State.{ClientOf, free, used, StateOf, slotAt}
 use Rattle.model.specs.Events.{opened, closed, took, consumed, stepped}
-use Rattle.model.specs.Decision.{opens, feeds, takes, closes, unaltered, done, refusal}
-use Rattle.model.specs.Feed.{contextOf, decideStep, decideCommand, decideReading, decideCut, decideFeed}
-use Rattle.model.specs.Calls.{kindOf, decideOpenAt, decideOpen, decideTakeFrom, decideTake, decideClose}
+use Rattle.model.specs.Decision.{opens, feeds, takes, closes, unaltered, done, refusal, slip}
+use Rattle.model.specs.Feed.{contextOf, staysOpen, errorFits, decideRefusal, decideStep, decideCommand}
+use Rattle.model.specs.Feed.{decideReading, decideCut, decideFeed}
+use Rattle.model.specs.Calls.{openingOf, decideOpenAt, decideOpen, decideTakeFrom, decideTake, decideClose}
 use Rattle.model.specs.Calls.{decide}
 use Rattle.model.proofs.Outcomes.{Speaks}
 
@@ -30,17 +32,17 @@ module _ (protocol : Protocol) {queueing : Queueing} (st : StateOf queueing) whe
   unfolding decide decideOpen
   open-no-slot i form h = rw (le-ltb i (st .sizes .slotCount) h)
 
-  pub open-no-form : (i form : ℕ) → i < st .sizes .slotCount → kindOf form ≡ none
+  pub open-no-form : (i form : ℕ) → i < st .sizes .slotCount → openingOf form ≡ none
       → decide protocol (opens i form) st ≡ unaltered 8
   unfolding decide decideOpen decideOpenAt
   open-no-form i form h e = rw (lt-ltb i (st .sizes .slotCount) h, e)
 
-  pub open-used : (i form : ℕ) (k : Kind) (c : ClientOf queueing) → i < st .sizes .slotCount → kindOf form ≡ some k
-      → slotAt i st ≡ used c → decide protocol (opens i form) st ≡ unaltered 4
+  pub open-used : (i form : ℕ) (k : Opening) (c : ClientOf queueing) → i < st .sizes .slotCount
+      → openingOf form ≡ some k → slotAt i st ≡ used c → decide protocol (opens i form) st ≡ unaltered 4
   unfolding decide decideOpen decideOpenAt
   open-used i form k c h e w = rw (lt-ltb i (st .sizes .slotCount) h, e, w)
 
-  pub open-free : (i form : ℕ) (k : Kind) → i < st .sizes .slotCount → kindOf form ≡ some k → slotAt i st ≡ free
+  pub open-free : (i form : ℕ) (k : Opening) → i < st .sizes .slotCount → openingOf form ≡ some k → slotAt i st ≡ free
       → decide protocol (opens i form) st ≡ done 0 [] (opened i k)
   unfolding decide decideOpen decideOpenAt
   open-free i form k h e w = rw (lt-ltb i (st .sizes .slotCount) h, e, w)
@@ -72,7 +74,8 @@ module _ (protocol : Protocol) {queueing : Queueing} (st : StateOf queueing) whe
       unfolding decideReading
       feed-blank e = feed-whole ∙ rw e
 
-      pub feed-invalid : (r : Refusal) → x ≡ invalid r → decide protocol (feeds i bs) st ≡ refusal n i k r
+      pub feed-invalid : (r : Refusal) → x ≡ invalid r → decide protocol (feeds i bs) st
+          ≡ decideRefusal (contextOf protocol st i) n k c r (afterSlip (c .transaction))
       unfolding decideReading
       feed-invalid r e = feed-whole ∙ rw e
 
@@ -82,9 +85,26 @@ module _ (protocol : Protocol) {queueing : Queueing} (st : StateOf queueing) whe
       feed-begin e r = feed-whole ∙ rw (e, r)
 
       pub feed-begin-again : (xs : List Action) → x ≡ command begin → c .transaction ≡ begun xs
-          → decide protocol (feeds i bs) st ≡ refusal n i k BadState
+          → decide protocol (feeds i bs) st ≡ decideRefusal (contextOf protocol st i) n k c BadState spoiled
       unfolding decideReading decideCommand
       feed-begin-again xs e r = feed-whole ∙ rw (e, r)
+
+      pub feed-begin-spoiled : x ≡ command begin → c .transaction ≡ spoiled
+          → decide protocol (feeds i bs) st ≡ decideRefusal (contextOf protocol st i) n k c BadState spoiled
+      unfolding decideReading decideCommand
+      feed-begin-spoiled e r = feed-whole ∙ rw (e, r)
+
+      -- "COMMIT gives 103, does nothing and ends the transaction"
+      pub feed-commit-spoiled : x ≡ command commit → c .transaction ≡ spoiled
+          → decide protocol (feeds i bs) st ≡ decideRefusal (contextOf protocol st i) n k c BadState off
+      unfolding decideReading decideCommand
+      feed-commit-spoiled e r = feed-whole ∙ rw (e, r)
+
+      -- "later good commands get 0 and do nothing"
+      pub feed-spoiled : (a : Action) → x ≡ command (plain a) → c .transaction ≡ spoiled
+          → decide protocol (feeds i bs) st ≡ done n [] (consumed i k spoiled)
+      unfolding decideReading decideCommand
+      feed-spoiled a e r = feed-whole ∙ rw (e, r)
 
       pub feed-commit-none : x ≡ command commit → c .transaction ≡ off
           → decide protocol (feeds i bs) st ≡ done n [] (consumed i k off)
@@ -102,6 +122,27 @@ module _ (protocol : Protocol) {queueing : Queueing} (st : StateOf queueing) whe
           → decide protocol (feeds i bs) st ≡ refusal n i k Room
       unfolding decideReading decideCommand
       feed-record-full a xs e r f = feed-whole ∙ rw (e, r, f)
+
+      -- ---- a refusal
+
+      pub refusal-shuts : (r : Refusal) (t : Transaction) → staysOpen k (c .hangsUp) r ≡ false
+          → decideRefusal (contextOf protocol st i) n k c r t ≡ refusal n i k r
+      unfolding decideRefusal
+      refusal-shuts r t e = rw e
+
+      pub refusal-stays : (r : Refusal) (t : Transaction) → staysOpen k (c .hangsUp) r ≡ true
+          → errorFits (contextOf protocol st i) k c r ≡ true
+          → decideRefusal (contextOf protocol st i) n k c r t ≡ slip n i k r t
+      unfolding decideRefusal
+      refusal-stays r t e f = rw (e, f)
+
+      pub refusal-full : (r : Refusal) (t : Transaction) → staysOpen k (c .hangsUp) r ≡ true
+          → errorFits (contextOf protocol st i) k c r ≡ false
+          → decideRefusal (contextOf protocol st i) n k c r t ≡ refusal n i k Room
+      unfolding decideRefusal
+      refusal-full r t e f = rw (e, f)
+
+      -- ---- a step
 
       -- a single action is a step of its own
       pub feed-action : (a : Action) → x ≡ command (plain a) → c .transaction ≡ off

@@ -10,12 +10,12 @@ use Rattle.model.specs.State.{slotAt, newClient, recordingCharge, record
 use Rattle.model.specs.State.{withKind, withPatterns, withTransaction, withQueue}
 use Rattle.model.specs.State.{setUpAnswer, setUp}
 use Rattle.model.specs.Queueing.{queueCharge, rest}
-use Rattle.model.specs.Queue.{queueFits, afterTake, shutBy, withMessages}
+use Rattle.model.specs.Queue.{queueFits, afterTake, shutBy, withError, withMessages}
 use Rattle.model.specs.Queue.{fitsAll}
 use Rattle.model.specs.Queue.{afterStep, queuedByStep}
 use Rattle.model.specs.Events.{storeAfterEvent, onClient, eachSlot, slotAfterEvent, afterEvent}
-use Rattle.model.specs.Feed.{decideStep, decideCommand, decideReading, decideCut, decideFeed}
-use Rattle.model.specs.Calls.{kindOf, decideOpenAt, decideOpen, decideTakeFrom, decideTake, decideClose}
+use Rattle.model.specs.Feed.{decideRefusal, decideStep, decideCommand, decideReading, decideCut, decideFeed}
+use Rattle.model.specs.Calls.{openingOf, decideOpenAt, decideOpen, decideTakeFrom, decideTake, decideClose}
 use Rattle.model.specs.Calls.{decide}
 use Rattle.model.specs.Calls.{serve, afterCalls, repliesTo}
 use Rattle.model.specs.Log.{addedAfter, addedAfterAll, logAfterStep, onLog, logAfterEvent, logGiven}
@@ -41,10 +41,11 @@ unfoldable pub definitions : Unit {0}
 unfolding
     step-definitions
     slotAt newClient recordingCharge recordingFits inRange emptyState setUpAnswer setUp
-    queueCharge queueFits rest afterTake withQueue withTransaction withKind shutBy withMessages withPatterns fitsAll afterStep queuedByStep
+    queueCharge queueFits rest afterTake withQueue withTransaction withKind shutBy withError withMessages withPatterns
+    fitsAll afterStep queuedByStep
     storeAfterEvent onClient eachSlot slotAfterEvent afterEvent
-    decideStep decideCommand decideReading decideCut decideFeed
-    kindOf decideOpenAt decideOpen decideTakeFrom decideTake decideClose decide
+    decideRefusal decideStep decideCommand decideReading decideCut decideFeed
+    openingOf decideOpenAt decideOpen decideTakeFrom decideTake decideClose decide
     serve afterCalls repliesTo
     addedAfter addedAfterAll logAfterStep onLog logAfterEvent logGiven
     pastOf closedBy historyAfter historyAfterAll historyOf drain infoFor lastInfo

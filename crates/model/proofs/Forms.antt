@@ -16,17 +16,25 @@ use Rattle.model.specs.Store.{Store}
 use Rattle.model.specs.Patterns.{Patterns}
 use Rattle.model.specs.Step.{owesAll, patternsAfterAll}
 use Rattle.model.specs.Queueing.{Queueing}
-use Rattle.model.specs.State.{off, ClientOf, SlotOf, free, used, StateOf, slotAt, newClient}
+use Rattle.model.specs.State.{Opening, off, afterSlip, ClientOf, SlotOf, free, used, StateOf, slotAt, newClient}
 use Rattle.model.specs.State.{withKind, withPatterns, withTransaction, withQueue}
-use Rattle.model.specs.Queue.{queueFits, encoded, afterTake, shutBy, withMessages, fitsAll}
+use Rattle.model.specs.Queue.{queueFits, encoded, afterTake, shutBy, withError, withMessages, fitsAll}
 use Rattle.model.specs.Queue.{afterStep}
-use Rattle.model.specs.Events.{Event, idle, opened, closed, took, consumed, refused, stepped, storeAfterEvent}
-use Rattle.model.specs.Events.{onClient, eachSlot, slotAfterEvent, afterEvent}
+use Rattle.model.specs.Events.{Event, idle, opened, closed, took, consumed, refused, slipped, stepped}
+use Rattle.model.specs.Events.{storeAfterEvent, onClient, eachSlot, slotAfterEvent, afterEvent}
 use Rattle.model.specs.Decision.{Call, opens, feeds, takes, closes, Decision, unaltered}
 use Rattle.model.specs.Feed.{Context, contextOf, decideReading, decideCut, decideFeed}
-use Rattle.model.specs.Calls.{kindOf, decideOpenAt, decideOpen, decideTakeFrom, decideTake, decideClose, decide}
+use Rattle.model.specs.Calls.{
+  openingOf,
+  decideOpenAt,
+  decideOpen,
+  decideTakeFrom,
+  decideTake,
+  decideClose,
+  decide,
+}
 use Rattle.model.specs.Forms.{clientWith, slotWith, stateWith}
-use Rattle.model.proofs.Judged.{command-alike}
+use Rattle.model.proofs.Judged.{Alike, refusal-alike, command-alike}
 
 -- the queues of a slot are of some kind
 abbrev pub QueueIn : {A : Queueing} → (A .Queue → Type 0) → SlotOf A → Type 0
@@ -68,7 +76,7 @@ module _ {A B : Queueing} (form : A .Queue → B .Queue) (P : A .Queue → Type 
   unfolding slotAt stateWith
   slotAt-with i st = getD-slot (st .slots) i
 
-  open-with : (i : ℕ) (k : Option Kind) (x : SlotOf A) → decideOpenAt i k (slot x) ≡ decideOpenAt i k x
+  open-with : (i : ℕ) (k : Option Opening) (x : SlotOf A) → decideOpenAt i k (slot x) ≡ decideOpenAt i k x
   unfolding decideOpenAt slotWith
   open-with i none x = refl
   open-with i (some k) free = refl
@@ -84,12 +92,29 @@ module _ {A B : Queueing} (form : A .Queue → B .Queue) (P : A .Queue → Type 
   close-with i free = refl
   close-with i (used c) = refl
 
+  fitsAll-with : (p : Protocol) (Q : ℕ) (ms : List Message) (c : ClientOf A)
+      → fitsAll p Q ms (client c) ≡ fitsAll p Q ms c
+  unfolding fitsAll clientWith
+  fitsAll-with p Q ms c =
+      ap (λ (q : B .Queue). queueFits Q (B .charge q)) (keeps .appended (c .queue) (encoded p (c .kind) ms))
+      ∙ ap (queueFits Q) (keeps .charge (A .appended (c .queue) (encoded p (c .kind) ms)))
+
+  alike-with : (x : Context) (k : Kind) (c : ClientOf A) → Alike x k (client c) c
+  unfolding clientWith withKind
+  alike-with x k c =
+      record {
+        same-patterns = refl;
+        same-form = refl;
+        same-room = λ r. fitsAll-with (x .protocol) (x .sizes .queueRoom) (error r ∷ []) (withKind k c);
+      }
+
   reading-with : (x : Context) (n : ℕ) (k : Kind) (r : Reading) (c : ClientOf A)
       → decideReading x n k r (client c) ≡ decideReading x n k r c
   unfolding decideReading clientWith
   reading-with x n k blank c = refl
-  reading-with x n k (command a) c = command-alike x n k (client c) c refl a (c .transaction)
-  reading-with x n k (invalid r) c = refl
+  reading-with x n k (command a) c = command-alike x n k (client c) c (alike-with x k c) a (c .transaction)
+  reading-with x n k (invalid r) c =
+      refusal-alike x n k (client c) c (alike-with x k c) r (afterSlip (c .transaction))
 
   cut-with : (x : Context) (w : Cut) (c : ClientOf A)
       → decideCut x w (client c) ≡ decideCut x w c
@@ -107,10 +132,10 @@ module _ {A B : Queueing} (form : A .Queue → B .Queue) (P : A .Queue → Type 
       → decide p x (state st) ≡ decide p x st
   unfolding decide stateWith decideOpen
   decide-with p (opens i form) st h =
-      ap (λ (x : SlotOf B). cond (ltb i (st .sizes .slotCount)) (decideOpenAt i (kindOf form) x) (unaltered 2))
+      ap (λ (x : SlotOf B). cond (ltb i (st .sizes .slotCount)) (decideOpenAt i (openingOf form) x) (unaltered 2))
       (slotAt-with i st)
       ∙ ap (λ (d : Decision). cond (ltb i (st .sizes .slotCount)) d (unaltered 2))
-      (open-with i (kindOf form) (slotAt i st))
+      (open-with i (openingOf form) (slotAt i st))
   decide-with p (feeds i bs) st h =
       ap (decideFeed (contextOf p st i) bs) (slotAt-with i st)
       ∙ feed-with (contextOf p st i) bs (slotAt i st)
@@ -122,9 +147,16 @@ module _ {A B : Queueing} (form : A .Queue → B .Queue) (P : A .Queue → Type 
   -- a client with another queue
   abbrev holding : ClientOf A → B .Queue → ClientOf B
   holding c q =
-      record { kind = c .kind; shut = c .shut; patterns = c .patterns; transaction = c .transaction; queue = q }
+      record {
+        kind = c .kind;
+        hangsUp = c .hangsUp;
+        shut = c .shut;
+        patterns = c .patterns;
+        transaction = c .transaction;
+        queue = q;
+      }
 
-  newClient-with : (k : Kind) → newClient k ≡ client (newClient k)
+  newClient-with : (k : Opening) → newClient k ≡ client (newClient k)
   unfolding newClient clientWith
   newClient-with k = ap (holding (newClient k)) (sym (keeps .empty))
 
@@ -142,22 +174,36 @@ module _ {A B : Queueing} (form : A .Queue → B .Queue) (P : A .Queue → Type 
     shutBy-with : (r : Refusal) (c : ClientOf A) → shutBy (p .written) r (client c) ≡ client (shutBy (p .written) r c)
     unfolding shutBy clientWith
     shutBy-with r c =
-        ap (λ (q : B .Queue). record { kind = c .kind; shut = true; patterns = []; transaction = off; queue = q })
+        ap (λ (q : B .Queue).
+        record {
+          kind = c .kind;
+          hangsUp = c .hangsUp;
+          shut = true;
+          patterns = [];
+          transaction = off;
+          queue = q;
+        })
         (keeps .appended (c .queue) (encoded p (c .kind) (error r ∷ [])))
+
+    withError-with : (r : Refusal) (c : ClientOf A)
+        → withError (p .written) r (client c) ≡ client (withError (p .written) r c)
+    unfolding withError withQueue clientWith
+    withError-with r c = ap (holding c) (keeps .appended (c .queue) (encoded p (c .kind) (error r ∷ [])))
 
     withMessages-with : (ms : List Message) (ps : Patterns) (c : ClientOf A)
         → withMessages p ms ps (client c) ≡ client (withMessages p ms ps c)
     unfolding withMessages withPatterns withQueue clientWith
     withMessages-with ms ps c =
         ap (λ (q : B .Queue).
-        record { kind = c .kind; shut = c .shut; patterns = ps; transaction = c .transaction; queue = q })
+        record {
+          kind = c .kind;
+          hangsUp = c .hangsUp;
+          shut = c .shut;
+          patterns = ps;
+          transaction = c .transaction;
+          queue = q;
+        })
         (keeps .appended (c .queue) (encoded p (c .kind) ms))
-
-    fitsAll-with : (Q : ℕ) (ms : List Message) (c : ClientOf A) → fitsAll p Q ms (client c) ≡ fitsAll p Q ms c
-    unfolding fitsAll clientWith
-    fitsAll-with Q ms c =
-        ap (λ (q : B .Queue). queueFits Q (B .charge q)) (keeps .appended (c .queue) (encoded p (c .kind) ms))
-        ∙ ap (queueFits Q) (keeps .charge (A .appended (c .queue) (encoded p (c .kind) ms)))
 
     afterStep-with : (Q : ℕ) (mine : Bool) (xs : List Action) (s : Store) (c : ClientOf A)
         → afterStep p Q mine xs s (client c) ≡ client (afterStep p Q mine xs s c)
@@ -166,7 +212,7 @@ module _ {A B : Queueing} (form : A .Queue → B .Queue) (P : A .Queue → Type 
         let ps : Patterns = patternsAfterAll mine xs (c .patterns) in
         let ms : List Message = owesAll p mine xs s (c .patterns) in
         cond-with client (c .shut) refl
-        (rw (fitsAll-with Q ms c)
+        (rw (fitsAll-with p Q ms c)
         (cond-with client (fitsAll p Q ms c) (withMessages-with ms ps c) (shutBy-with Room c)))
 
     slotAfterEvent-with : (Q : ℕ) (e : Event) (s : Store) (j : ℕ) (x : SlotOf A) → QueueIn P x
@@ -180,6 +226,10 @@ module _ {A B : Queueing} (form : A .Queue → B .Queue) (P : A .Queue → Type 
         cond-with slot (eqb j i) (onClient-with _ _ x h (λ c q. refl)) refl
     slotAfterEvent-with Q (refused i k r) s j x h =
         cond-with slot (eqb j i) (onClient-with _ _ x h (λ c q. shutBy-with r (withTransaction off (withKind k c)))) refl
+    slotAfterEvent-with Q (slipped i k r t) s j x h =
+        cond-with slot (eqb j i)
+        (onClient-with _ _ x h (λ c q. withError-with r (withTransaction t (withKind k c))))
+        refl
     slotAfterEvent-with Q (stepped i k xs) s j x h =
         cond-with slot (eqb j i)
         (onClient-with _ _ x h (λ c q. afterStep-with Q true xs s (withTransaction off (withKind k c))))

@@ -12,6 +12,7 @@ use Rattle.octets.specs.Octets.{Bytes}
 use Rattle.octets.specs.Order.{same}
 use Rattle.protocol.specs.Terms.{Action, hello, sub, unsub, read, write, ping, Message, version, info, pong, error}
 use Rattle.protocol.specs.Terms.{Protocol}
+use Rattle.protocol.specs.declared.Refusal.{Refusal}
 use Rattle.model.specs.Store.{Store, lookup, storeAfterWrite, changes}
 use Rattle.model.specs.Patterns.{Patterns, held, addPattern, removePattern}
 use Rattle.model.specs.Step.{storeAfter, patternsAfter, storeAfterAll, patternsAfterAll}
@@ -148,6 +149,11 @@ module _ (protocol : Protocol) where
           within = longer new;
           last = λ p k h m. on new p k h m ∙ g p k h m;
         }
+
+    -- an ERROR says nothing of a key
+    pub after-error : (r : Refusal) → Informed s ps (ms ++ (error r ∷ [])) f
+    unfolding known
+    after-error r = keep s (error r ∷ []) (λ p k h m. refl)
 
     infos-keep : Ascending s → (q k : Bytes) → known (lookup k s) k (infos protocol q s) ≡ lookup k s
     infos-keep a q k =

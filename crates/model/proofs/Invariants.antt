@@ -13,6 +13,7 @@ use Rattle.protocol.specs.declared.Kind.{Kind}
 use Rattle.model.specs.Store.{Store, storeCharge, storeFits}
 use Rattle.model.specs.State.{Sizes, inRange, within, off, Client, free, used, State, slotAt}
 use Rattle.model.specs.State.{withKind, withTransaction}
+use Rattle.model.specs.Queue.{fitsAll}
 use Rattle.model.specs.State.{emptyServer, emptyState}
 use Rattle.model.specs.Events.{storeAfterEvent, afterEvent}
 use Rattle.model.specs.Decision.{Call, Decision}
@@ -25,11 +26,12 @@ use Rattle.model.proofs.Slots.{length-eachSlot, slotAt-empty}
 use Rattle.model.proofs.Steps.{patternsAfterAll-other, owesAll-none}
 use Rattle.model.proofs.Limits.{StoreLimits, limits-storeAfterAll, PatternLimits, limits-patternsAfterAll}
 use Rattle.model.proofs.Outcomes.{Speaks}
-use Rattle.model.proofs.Outcomes.{Outcome, turned-away, opening, consuming, refusing, running, giving}
+use Rattle.model.proofs.Outcomes.{Outcome, turned-away, opening, consuming, refusing, slipping, running, giving}
 use Rattle.model.proofs.Outcomes.{closing, outcome}
-use Rattle.model.proofs.Changes.{Change, kept, served, spoke, was-refused, ran, watched}
+use Rattle.model.proofs.Changes.{Change, kept, served, spoke, was-refused, stayed, ran, watched}
 use Rattle.model.proofs.Changes.{SlotChange, vacant, closed-now, opened-now, changed, slot-change}
-use Rattle.model.proofs.ClientInvariants.{ValidReading, runs-valid, records-valid, invariant-newClient}
+use Rattle.model.proofs.ClientInvariants.{ValidReading, runs-valid, records-valid, spoils-valid}
+use Rattle.model.proofs.ClientInvariants.{invariant-newClient, invariant-withError}
 use Rattle.model.proofs.ClientInvariants.{invariant-afterTake}
 use Rattle.model.proofs.ClientInvariants.{invariant-withTransaction, invariant-feeder, invariant-shutBy}
 use Rattle.model.proofs.ClientInvariants.{invariant-afterStep}
@@ -68,7 +70,7 @@ module _ (protocol : Protocol) (valid : Bytes → Bool) (law : Lawful protocol v
 
     client-after : (c : Client) (l : Log) → Good c → {x : Call} {s : Store} {d : Client} {m : Log}
         → Change protocol st c l x s d m → Good d
-    unfolding withTransaction withKind
+    unfolding withTransaction withKind fitsAll
     client-after c l g (kept y) = g
     client-after c l g (served i len m ms v q) = invariant-afterTake protocol valid law (st .sizes) c g
     client-after c l g (spoke i bs n k x r sp rec) =
@@ -79,6 +81,12 @@ module _ (protocol : Protocol) (valid : Bytes → Bool) (law : Lawful protocol v
         let f = fixes-at i bs n k x c sp in
         invariant-shutBy protocol valid law (st .sizes) r (withTransaction off (withKind k c))
         (invariant-feeder protocol valid law (st .sizes) k c g (sp .is-open) f) (sp .is-open) (f .fixed)
+    client-after c l g (stayed i bs n k x r t sp why stays fits left) =
+        let f = fixes-at i bs n k x c sp in
+        invariant-withError protocol valid law (st .sizes) r (withTransaction t (withKind k c))
+        (invariant-withTransaction protocol valid law (st .sizes) k t c g (sp .is-open) f
+        (spoils-valid protocol valid (st .sizes .recordRoom) x (c .transaction) t left))
+        (sp .is-open) (f .fixed) fits
     client-after c l g (ran i bs n k x xs sp run ok) =
         let f = fixes-at i bs n k x c sp in
         let v = runs-valid protocol valid (st .sizes .recordRoom) x (c .transaction) xs run
@@ -112,7 +120,8 @@ module _ (protocol : Protocol) (valid : Bytes → Bool) (law : Lawful protocol v
     store-after x d (turned-away _ n p q u) = limits-now
     store-after x d (opening i form k h e w) = limits-now
     store-after x d (consuming i bs n k y c r sp rec) = limits-now
-    store-after x d (refusing i bs n k y c r sp why) = limits-now
+    store-after x d (refusing i bs n k y c r sp why shuts) = limits-now
+    store-after x d (slipping i bs n k y c r t sp why stays fits left) = limits-now
     store-after x d (running i bs n k y c xs sp run ok) =
         let g = client-at i c (sp .at) in
         let v = runs-valid protocol valid (st .sizes .recordRoom) y (c .transaction) xs run

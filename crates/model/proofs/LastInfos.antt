@@ -12,7 +12,7 @@ use Rattle.model.specs.Patterns.{held}
 use Rattle.model.specs.Step.{storeAfterAll}
 use Rattle.model.specs.State.{Sizes, off, Client, used, State, emptyState, slotAt, newClient}
 use Rattle.model.specs.State.{withKind, withPatterns, withTransaction, withQueue}
-use Rattle.model.specs.Queue.{afterTake, shutBy, withMessages, afterStep}
+use Rattle.model.specs.Queue.{afterTake, shutBy, withError, withMessages, afterStep}
 use Rattle.model.specs.Events.{storeAfterEvent, afterEvent}
 use Rattle.model.specs.Decision.{Call, Decision}
 use Rattle.model.specs.Calls.{decide, serve}
@@ -23,11 +23,11 @@ use Rattle.model.specs.Invariant.{Ascending}
 use Rattle.model.proofs.Tests.{never}
 use Rattle.model.proofs.Steps.{ascending-storeAfterAll}
 use Rattle.model.proofs.Queues.{StepOutcome, was-shut, got-all, got-none, step-outcome}
-use Rattle.model.proofs.Outcomes.{Outcome, turned-away, opening, consuming, refusing, running, giving}
+use Rattle.model.proofs.Outcomes.{Outcome, turned-away, opening, consuming, refusing, slipping, running, giving}
 use Rattle.model.proofs.Outcomes.{closing, outcome}
-use Rattle.model.proofs.Changes.{Change, kept, served, spoke, was-refused, ran, watched}
+use Rattle.model.proofs.Changes.{Change, kept, served, spoke, was-refused, stayed, ran, watched}
 use Rattle.model.proofs.Always.{Always, Preserved, always}
-use Rattle.model.proofs.Informing.{up-to-date, Informed, turns}
+use Rattle.model.proofs.Informing.{up-to-date, Informed, after-error, turns}
 
 module _ (protocol : Protocol) where
   -- an open client is informed
@@ -52,11 +52,13 @@ module _ (protocol : Protocol) where
 
   knows-next : (st : State) → Ascending (st .store) → (c : Client) (l : Log) → Knows (st .store) c l
       → {x : Call} {s : Store} {d : Client} {m : Log} → Change protocol st c l x s d m → Knows s d m
-  unfolding withTransaction withKind shutBy afterTake withQueue
+  unfolding withTransaction withKind shutBy withError afterTake withQueue
   knows-next st a c l h (kept y) = h
   knows-next st a c l h (served i len m ms v q) = h
   knows-next st a c l h (spoke i bs n k x r sp rec) = h
   knows-next st a c l h (was-refused i bs n k x r sp why) = λ p. never p
+  knows-next st a c l h (stayed i bs n k x r t sp why stays fits left) =
+      λ p. after-error protocol (st .store) (c .patterns) (l .queued) (l .added) (h p) r
   knows-next st a c l h (ran i bs n k x xs sp run ok) =
       step-knows (st .sizes .queueRoom) true xs (st .store) (withTransaction off (withKind k c)) l a h
   knows-next st a c l h (watched i bs n k x feeder xs sp run ok) =
@@ -71,7 +73,8 @@ module _ (protocol : Protocol) where
   order-after st a x d (turned-away _ n p q u) = a
   order-after st a x d (opening i form k h e w) = a
   order-after st a x d (consuming i bs n k y c r sp rec) = a
-  order-after st a x d (refusing i bs n k y c r sp why) = a
+  order-after st a x d (refusing i bs n k y c r sp why shuts) = a
+  order-after st a x d (slipping i bs n k y c r t sp why stays fits left) = a
   order-after st a x d (running i bs n k y c xs sp run ok) = ascending-storeAfterAll xs (st .store) a
   order-after st a x d (giving i len c m w q h) = a
   order-after st a x d (closing i c w) = a

@@ -1,4 +1,5 @@
 pub mod Tests
+pub mod Transactions
 pub mod Order
 pub mod Slots
 pub mod Stores
@@ -24,6 +25,7 @@ pub mod Answers
 pub mod Together
 pub mod Continues
 pub mod NextStates
+pub mod Slips
 pub mod Forms
 pub mod Opened
 pub mod Definitions
@@ -31,4 +33,5 @@ pub mod Tiny
 pub mod Scripts
 pub mod Examples
 pub mod AnswerExamples
+pub mod SlipExamples
 pub mod Sessions

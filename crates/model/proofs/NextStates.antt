@@ -16,10 +16,10 @@ use Rattle.protocol.specs.declared.Refusal.{Refusal}
 use Rattle.model.specs.Store.{Store}
 use Rattle.model.specs.Step.{storeAfterAll}
 use Rattle.model.specs.Queueing.{Queueing}
-use Rattle.model.specs.State.{Sizes, Transaction, off, ClientOf, SlotOf, free, used, StateOf, slotAt, newClient}
-use Rattle.model.specs.State.{withKind, withTransaction}
-use Rattle.model.specs.Queue.{afterTake, shutBy, afterStep}
-use Rattle.model.specs.Events.{opened, closed, took, consumed, refused, stepped}
+use Rattle.model.specs.State.{Sizes, Opening, Transaction, off, ClientOf, SlotOf, free, used, StateOf, slotAt}
+use Rattle.model.specs.State.{newClient, withKind, withTransaction}
+use Rattle.model.specs.Queue.{afterTake, shutBy, withError, afterStep}
+use Rattle.model.specs.Events.{opened, closed, took, consumed, refused, slipped, stepped}
 use Rattle.model.specs.Events.{onClient, eachSlot, slotAfterEvent, storeAfterEvent, afterEvent}
 use Rattle.model.proofs.Slots.{SlotAfter, inside, outside, slot-after}
 
@@ -67,7 +67,7 @@ module _ (protocol : Protocol) {queueing : Queueing} (st : StateOf queueing) (i 
   unfolding slotAt
   one-slot g = rw (zero-add i) at (each-one g 0 i (st .slots))
 
-  pub after-opened : (k : Kind) → afterEvent protocol (opened i k) st ≡ withSlot i (used (newClient k)) st
+  pub after-opened : (k : Opening) → afterEvent protocol (opened i k) st ≡ withSlot i (used (newClient k)) st
   unfolding afterEvent storeAfterEvent slotAfterEvent withSlot
   after-opened k = rw (one-slot (λ x. used (newClient k)))
 
@@ -89,6 +89,13 @@ module _ (protocol : Protocol) {queueing : Queueing} (st : StateOf queueing) (i 
         → afterEvent protocol (refused i k r) st ≡ withSlot i (used (shutBy (protocol .written) r (withTransaction off (withKind k c)))) st
     unfolding afterEvent storeAfterEvent slotAfterEvent withSlot onClient
     after-refused k r = rw (one-slot (onClient (λ d. shutBy (protocol .written) r (withTransaction off (withKind k d)))), w)
+
+    pub after-slipped : (k : Kind) (r : Refusal) (t : Transaction)
+        → afterEvent protocol (slipped i k r t) st
+        ≡ withSlot i (used (withError (protocol .written) r (withTransaction t (withKind k c)))) st
+    unfolding afterEvent storeAfterEvent slotAfterEvent withSlot onClient
+    after-slipped k r t =
+        rw (one-slot (onClient (λ d. withError (protocol .written) r (withTransaction t (withKind k d)))), w)
 
   -- ---- a step
 

@@ -9,13 +9,12 @@ use lib.ListN.{length}
 use lib.Seq.{getD-set-same}
 use borrow.Author.Tests.{eq-eqb}
 use Rattle.protocol.specs.Terms.{Protocol}
-use Rattle.protocol.specs.declared.Kind.{Kind}
 use Rattle.model.specs.State.{Sizes, inRange, Slot, free, used, State, emptyServer, emptyState, slotAt}
 use Rattle.model.specs.State.{setUpAnswer, setUp}
-use Rattle.model.specs.State.{newClient}
+use Rattle.model.specs.State.{Opening, newClient}
 use Rattle.model.specs.Events.{opened}
 use Rattle.model.specs.Decision.{opens, Decision, done}
-use Rattle.model.specs.Calls.{kindOf, decide, serve}
+use Rattle.model.specs.Calls.{openingOf, decide, serve}
 use Rattle.model.specs.Log.{newLog, logAfterEvent, logGiven}
 use Rattle.model.specs.History.{History, historyAfter}
 use Rattle.model.proofs.Slots.{slotAt-empty}
@@ -48,25 +47,25 @@ setUp-out-of-range z h = (rw h, rw h)
 -- ---- open
 
 module _ (protocol : Protocol) where
-  -- an open answered 0: the slot was free and has a new client of the form's kind, with a new log
+  -- an open answered 0: the slot was free and has a new client of the form, with a new log
   pub record OpenedNew (t : History) (i form : ℕ) : Type 0 where
-    pub kind : Kind
-    pub of-form : kindOf form ≡ some kind
+    pub asked : Opening
+    pub of-form : openingOf form ≡ some asked
     pub was-free : slotAt i (t .state) ≡ free
-    pub client-new : slotAt i (historyAfter protocol (opens i form) t .state) ≡ used (newClient kind)
+    pub client-new : slotAt i (historyAfter protocol (opens i form) t .state) ≡ used (newClient asked)
     pub log-new : historyAfter protocol (opens i form) t .logs i ≡ newLog
 
   slotAt-withSlot : (i : ℕ) (x : Slot) (st : State) → i < length (st .slots) → slotAt i (withSlot i x st) ≡ x
   unfolding slotAt withSlot
   slotAt-withSlot i x st h = getD-set-same (st .slots) i x free h
 
-  opened-slot : (t : History) (i form : ℕ) (k : Kind) → i < length (t .state .slots) → kindOf form ≡ some k
+  opened-slot : (t : History) (i form : ℕ) (k : Opening) → i < length (t .state .slots) → openingOf form ≡ some k
       → slotAt i (t .state) ≡ free → decide protocol (opens i form) (t .state) ≡ done 0 [] (opened i k)
       → OpenedNew t i form
   unfolding historyAfter serve logGiven logAfterEvent
   opened-slot t i form k h e w d =
       record {
-        kind = k;
+        asked = k;
         of-form = e;
         was-free = w;
         client-new =
@@ -74,8 +73,8 @@ module _ (protocol : Protocol) where
         log-new = rw (d, eq-eqb i i refl);
       }
 
-  -- A slot opened anew has nothing of its last client: no patterns, no recording, no message, and nothing of its
-  -- history.
+  -- A slot opened anew has nothing of its last client: not its form, no patterns, no transaction, no message, and
+  -- nothing of its history.
   pub opened-new : (t : History) → length (t .state .slots) ≡ t .state .sizes .slotCount → (i form : ℕ)
       → serve protocol (opens i form) (t .state) .reply .answer ≡ 0 → OpenedNew t i form
   unfolding serve

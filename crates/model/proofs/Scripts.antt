@@ -4,13 +4,14 @@ use mathlib.Core.List.{List, [], _∷_, map}
 use lib.ListN.{replicate}
 use Rattle.octets.specs.Octets.{Bytes, ascii}
 use Rattle.protocol.specs.Terms.{sub, Message, Protocol}
+use Rattle.protocol.specs.declared.Kind.{Kind}
 use Rattle.protocol.specs.declared.Kind.the-variants.{Framed}
 use Rattle.model.specs.State.{Sizes, Slot, free, used, State, emptyServer, slotAt}
 use Rattle.model.specs.Queue.{encoded}
 use Rattle.model.specs.Decision.{opens, Reply}
 use Rattle.model.specs.Calls.{afterCalls, repliesTo}
 use Rattle.model.proofs.Definitions.{definitions}
-use Rattle.model.proofs.Tiny.{tiny, Line, _says_, readingOf, callsOf, tiny-definitions}
+use Rattle.model.proofs.Tiny.{tinyIn, Line, _says_, readingOf, callsOf, tiny-definitions}
 
 -- slots 0 and 1 are opened as streams, and then the lines run: the answer to each line, and what then waits in the
 -- slots
@@ -29,27 +30,36 @@ unfoldable pub queueIn : Slot → List Bytes
 queueIn free = []
 queueIn (used c) = c .queue
 
-abbrev pub protocolOf : Example → Protocol
-protocolOf e = tiny (map readingOf (e .lines))
-
-unfoldable pub start : Example → State
-start e = afterCalls (protocolOf e) (opens 0 1 ∷ opens 1 1 ∷ []) (emptyServer (e .sizes))
-
 abbrev pub answerOf : Reply → ℕ
 answerOf r = r .answer
 
-unfoldable pub computed : Example → Result
-computed e = (
-  map answerOf (repliesTo (protocolOf e) (callsOf 0 (e .lines)) (start e)),
-  queueIn (slotAt 0 (afterCalls (protocolOf e) (callsOf 0 (e .lines)) (start e))),
-  queueIn (slotAt 1 (afterCalls (protocolOf e) (callsOf 0 (e .lines)) (start e))),
-)
+-- with streams that become of this kind
+module _ (kind : Kind) where
+  abbrev pub protocolOf : Example → Protocol
+  protocolOf e = tinyIn kind (map readingOf (e .lines))
 
-unfoldable pub expected : Example → Result
-expected e = (e .answers, encoded (protocolOf e) Framed (e .queue-0), encoded (protocolOf e) Framed (e .queue-1))
+  unfoldable pub start : Example → State
+  start e = afterCalls (protocolOf e) (opens 0 1 ∷ opens 1 1 ∷ []) (emptyServer (e .sizes))
+
+  unfoldable pub computedIn : Example → Result
+  computedIn e = (
+    map answerOf (repliesTo (protocolOf e) (callsOf 0 (e .lines)) (start e)),
+    queueIn (slotAt 0 (afterCalls (protocolOf e) (callsOf 0 (e .lines)) (start e))),
+    queueIn (slotAt 1 (afterCalls (protocolOf e) (callsOf 0 (e .lines)) (start e))),
+  )
+
+  unfoldable pub expectedIn : Example → Result
+  expectedIn e = (e .answers, encoded (protocolOf e) kind (e .queue-0), encoded (protocolOf e) kind (e .queue-1))
+
+-- with streams that become framed
+abbrev pub computed : Example → Result
+computed e = computedIn Framed e
+
+abbrev pub expected : Example → Result
+expected e = expectedIn Framed e
 
 unfoldable pub example-definitions : Unit {0}
-unfolding definitions tiny-definitions queueIn start computed expected
+unfolding definitions tiny-definitions queueIn start computedIn expectedIn
 example-definitions = tt
 
 -- ---- sizes, keys and values

@@ -15,7 +15,7 @@ use Rattle.model.specs.Store.{Store}
 use Rattle.model.specs.State.{Sizes, inRange, Transaction, off, Client, used, State, slotAt, newClient}
 use Rattle.model.specs.State.{withKind, withPatterns, withTransaction, withQueue}
 use Rattle.model.specs.Queueing.{rest}
-use Rattle.model.specs.Queue.{afterTake, encoded, shutBy}
+use Rattle.model.specs.Queue.{afterTake, encoded, shutBy, withError}
 use Rattle.model.specs.Queue.{withMessages}
 use Rattle.model.specs.Queue.{afterStep, queuedByStep}
 use Rattle.model.specs.Decision.{Call}
@@ -25,7 +25,7 @@ use Rattle.model.specs.Lawful.{Fixes, Lawful}
 use Rattle.model.specs.Invariant.{Each, ClientInvariant, Invariant}
 use Rattle.model.proofs.Steps.{patternsAfterAll-other, owesAll-none}
 use Rattle.model.proofs.Queues.{encoded-append, StepOutcome, was-shut, got-all, got-none, step-outcome}
-use Rattle.model.proofs.Changes.{Change, kept, served, spoke, was-refused, ran, watched}
+use Rattle.model.proofs.Changes.{Change, kept, served, spoke, was-refused, stayed, ran, watched}
 use Rattle.model.proofs.Invariants.{client-at, invariant-serve, invariant-emptyServer}
 use Rattle.model.proofs.ClientInvariants.{Calm, never-shut}
 use Rattle.model.proofs.Always.{Always, Preserved, always}
@@ -119,7 +119,7 @@ module _ (protocol : Protocol) where
         → slotAt j st ≡ used c
         → Accounted c l → {x : Call} {s : Store} {d : Client} {m : Log} → Change protocol st c l x s d m
         → Accounted d m
-    unfolding withTransaction withKind shutBy
+    unfolding withTransaction withKind shutBy withError withQueue
     accounted-next st inv j c l w a (kept y) = a
     accounted-next st inv j c l w a (served i len m ms v q) = take-accounted c l m ms q a
     accounted-next st inv j c l w a (spoke i bs n k x r sp rec) =
@@ -128,6 +128,10 @@ module _ (protocol : Protocol) where
         let f = law .fixes (c .kind) k bs n x (sp .cuts) in
         more (withTransaction off (withKind k c)) (shutBy (protocol .written) r (withTransaction off (withKind k c))) l (error r ∷ []) (l .added)
         refl (λ p. absurd (f .fixed p)) refl (fixing k off c l f a)
+    accounted-next st inv j c l w a (stayed i bs n k x r t sp why stays fits left) =
+        let f = law .fixes (c .kind) k bs n x (sp .cuts) in
+        more (withTransaction t (withKind k c)) (withError (protocol .written) r (withTransaction t (withKind k c))) l
+        (error r ∷ []) (l .added) refl (λ p. absurd (f .fixed p)) refl (fixing k t c l f a)
     accounted-next st inv j c l w a (ran i bs n k x xs sp run ok) =
         let f = law .fixes (c .kind) k bs n x (sp .cuts) in
         step-accounted (st .sizes .queueRoom) true xs (st .store) (withTransaction off (withKind k c)) l

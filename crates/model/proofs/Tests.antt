@@ -1,13 +1,10 @@
 -- A result that hangs on a test.
 use mathlib.Core.Path.{_≡_, refl, sym}
 use mathlib.Core.Bool.{Bool, true, false, cond, _&&_, _||_}
-use mathlib.Core.List.{List}
 use Prim.Native.Nat.{ℕ}
 use native.Mathlib.Omega.{arith}
 use lib.Dec.{eqb}
 use borrow.Author.Tests.{eqb-true}
-use Rattle.protocol.specs.Terms.{Action}
-use Rattle.model.specs.State.{off, begun}
 
 -- what holds of both results holds of the result of the test
 pub by-test {ℓ} : {A : Type 0} (P : A → Type ℓ) (b : Bool) {x y : A} → (b ≡ true → P x) → (b ≡ false → P y)
@@ -28,10 +25,6 @@ either false f g = g refl
 
 pub never {ℓ} : {A : Type ℓ} → true ≡ false → A
 never e = let z : _≡_ {A = ℕ} 0 1 = cc in absurd (omega arith)
-
--- a transaction that is begun is not off
-pub off-not-begun {ℓ} : {C : Type ℓ} (xs : List Action) → off ≡ begun xs → C
-off-not-begun xs e = let z : _≡_ {A = ℕ} 0 1 = cc in absurd (omega arith)
 
 -- a fact about the number i is one about j where the test finds them equal
 pub at-equal {ℓ} : (P : ℕ → Type ℓ) (j i : ℕ) → eqb j i ≡ true → P j → P i

@@ -27,19 +27,23 @@ tinyWritten k m = messageId m ∷ messagePayload m
 unfoldable pub tinyMatches : Bytes → Bytes → Bool
 tinyMatches p k = cond (same p (42 ∷ [])) true (same p k)
 
--- a stream becomes framed
-unfoldable pub tinyKind : Kind → Kind
-tinyKind Packets = Packets
-tinyKind Stream = Framed
-tinyKind Framed = Framed
-tinyKind Text = Text
+-- a stream becomes one of the first kind, framed or text
+unfoldable pub tinyKind : Kind → Kind → Kind
+tinyKind to Packets = Packets
+tinyKind to Stream = to
+tinyKind to Framed = Framed
+tinyKind to Text = Text
 
-unfoldable pub tinyCut : List Reading → Kind → Bytes → Cut
-tinyCut script k [] = incomplete
-tinyCut script k (n ∷ bs) = whole 1 (tinyKind k) (getD script n blank)
+unfoldable pub tinyCut : Kind → List Reading → Kind → Bytes → Cut
+tinyCut to script k [] = incomplete
+tinyCut to script k (n ∷ bs) = whole 1 (tinyKind to k) (getD script n blank)
 
-unfoldable pub tiny : List Reading → Protocol
-tiny script = record { cut = tinyCut script; written = tinyWritten; matches = tinyMatches }
+unfoldable pub tinyIn : Kind → List Reading → Protocol
+tinyIn to script = record { cut = tinyCut to script; written = tinyWritten; matches = tinyMatches }
+
+-- whose streams become framed
+abbrev pub tiny : List Reading → Protocol
+tiny script = tinyIn Framed script
 
 -- ---- scripts
 
@@ -72,12 +76,12 @@ callsOf n [] = []
 callsOf n (l ∷ ls) = callOf n l ∷ callsOf (suc n) ls
 
 unfoldable pub tiny-definitions : Unit {0}
-unfolding tinyMatches tinyKind tinyCut tiny readingOf callOf callsOf
+unfolding tinyMatches tinyKind tinyCut tinyIn readingOf callOf callsOf
 tiny-definitions = tt
 
 -- ---- the tiny reader and writer are lawful, so what the theorems ask can be had
 
-kind-fixes : (k : Kind) → Fixes k (tinyKind k)
+kind-fixes : (k : Kind) → Fixes k (tinyKind Framed k)
 unfolding tinyKind
 kind-fixes Packets = record { keeps = inr refl; fixed = λ e. let z : _≡_ {A = ℕ} 0 1 = cc in omega arith }
 kind-fixes Stream = record { keeps = inl refl; fixed = λ e. let z : _≡_ {A = ℕ} 0 1 = cc in omega arith }
@@ -85,19 +89,19 @@ kind-fixes Framed = record { keeps = inr refl; fixed = λ e. let z : _≡_ {A = 
 kind-fixes Text = record { keeps = inr refl; fixed = λ e. let z : _≡_ {A = ℕ} 0 1 = cc in omega arith }
 
 module _ (script : List Reading) where
-  fixes : (k l : Kind) (bs : Bytes) (n : ℕ) (r : Reading) → tinyCut script k bs ≡ whole n l r → Fixes k l
+  fixes : (k l : Kind) (bs : Bytes) (n : ℕ) (r : Reading) → tinyCut Framed script k bs ≡ whole n l r → Fixes k l
   unfolding tinyCut
   fixes k l [] n r e = let z : _≡_ {A = ℕ} 0 1 = cc in absurd (omega arith)
-  fixes k l (b ∷ bs) n r e = let q : tinyKind k ≡ l = cc in rw q at (kind-fixes k)
+  fixes k l (b ∷ bs) n r e = let q : tinyKind Framed k ≡ l = cc in rw q at (kind-fixes k)
 
-  consumes : (k l : Kind) (bs : Bytes) (n : ℕ) (r : Reading) → tinyCut script k bs ≡ whole n l r → n ≤ length bs
+  consumes : (k l : Kind) (bs : Bytes) (n : ℕ) (r : Reading) → tinyCut Framed script k bs ≡ whole n l r → n ≤ length bs
   unfolding tinyCut
   consumes k l [] n r e = let z : _≡_ {A = ℕ} 0 1 = cc in absurd (omega arith)
   consumes k l (b ∷ bs) n r e = let q : 1 ≡ n = cc in omega arith
 
   reads : (valid : Bytes → Bool)
       → ((n : ℕ) (a : Action) → getD script n blank ≡ command (plain a) → ValidAction valid a)
-      → (k l : Kind) (bs : Bytes) (n : ℕ) (a : Action) → tinyCut script k bs ≡ whole n l (command (plain a))
+      → (k l : Kind) (bs : Bytes) (n : ℕ) (a : Action) → tinyCut Framed script k bs ≡ whole n l (command (plain a))
       → ValidAction valid a
   unfolding tinyCut
   reads valid h k l [] n a e = let z : _≡_ {A = ℕ} 0 1 = cc in absurd (omega arith)
@@ -113,5 +117,5 @@ module _ (script : List Reading) where
   pub tiny-lawful : (valid : Bytes → Bool)
       → ((n : ℕ) (a : Action) → getD script n blank ≡ command (plain a) → ValidAction valid a)
       → Lawful (tiny script) valid
-  unfolding tiny
+  unfolding tinyIn
   tiny-lawful valid h = record { fixes = fixes; consumes = consumes; reads = reads valid h; error-fits = error-fits }

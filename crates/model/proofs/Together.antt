@@ -23,7 +23,7 @@ use Rattle.model.specs.Log.{Log, logAfterStep, onLog, logAfterEvent, log
 use Rattle.model.specs.History.{History, historyAfter}
 use Rattle.model.proofs.Tests.{either}
 use Rattle.model.proofs.Outcomes.{Runs, Speaks, RefusalCause}
-use Rattle.model.proofs.Changes.{Change, kept, served, spoke, was-refused, ran, watched}
+use Rattle.model.proofs.Changes.{Change, kept, served, spoke, was-refused, stayed, ran, watched}
 use Rattle.model.proofs.Changes.{SlotChange, vacant, closed-now, opened-now, changed, slot-change}
 use Rattle.model.proofs.Decisions.{feed-commit, feed-action, step-done}
 use Rattle.model.proofs.Always.{free-not-used}
@@ -132,6 +132,8 @@ module _ (protocol : Protocol) where
   queued-by st c l (spoke i bs n k y r sp rec) =
       record { messages = []; why = nothing _; grown = sym (append-nil (l .queued)) }
   queued-by st c l (was-refused i bs n k y r sp why) =
+      record { messages = error r ∷ []; why = its-error i bs n k y r sp why; grown = refl }
+  queued-by st c l (stayed i bs n k y r t sp why stays fits left) =
       record { messages = error r ∷ []; why = its-error i bs n k y r sp why; grown = refl }
   queued-by st c l (ran i bs n k y xs sp run ok) =
       record { messages = _; why = by-its-step i bs n k y xs sp run ok; grown = refl }

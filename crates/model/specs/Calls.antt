@@ -3,36 +3,38 @@
 -- about lent memory, which the simple server does not have.
 use Prim.Native.Nat.{ℕ}
 use mathlib.Core.List.{List, [], _∷_}
-use mathlib.Core.Bool.{cond}
+use mathlib.Core.Bool.{true, false, cond}
 use mathlib.Core.Option.{Option, some, none}
 use lib.Dec.{eqb, leb, ltb}
 use lib.ListN.{length}
 use Rattle.octets.specs.Octets.{Bytes}
 use Rattle.protocol.specs.Terms.{Protocol}
-use Rattle.protocol.specs.declared.Kind.{Kind}
 use Rattle.protocol.specs.declared.Kind.the-variants.{Packets, Stream}
 use Rattle.model.specs.Queueing.{Queueing}
-use Rattle.model.specs.State.{SlotOf, free, used, StateOf, slotAt}
+use Rattle.model.specs.State.{Opening, openingWith, SlotOf, free, used, StateOf, slotAt}
 use Rattle.model.specs.Events.{afterEvent, opened, closed, took}
 use Rattle.model.specs.Decision.{Call, opens, feeds, takes, closes, Reply, Decision, unaltered, done}
 use Rattle.model.specs.Feed.{contextOf, decideFeed}
 
 -- ---- open: 2, 8, 4
 
--- form 0 is packets and form 1 a stream; there is no other
-unfoldable pub kindOf : ℕ → Option Kind
-kindOf form = cond (eqb form 0) (some Packets) (cond (eqb form 1) (some Stream) none)
+-- form 0 is packets, form 1 a stream, and form 2 a stream whose client every refusal shuts; there is no other
+unfoldable pub openingOf : ℕ → Option Opening
+openingOf form =
+    cond (eqb form 0) (some (openingWith Packets false))
+    (cond (eqb form 1) (some (openingWith Stream false))
+    (cond (eqb form 2) (some (openingWith Stream true)) none))
 
 module _ {queueing : Queueing} where
-  -- 8 for a form neither 0 nor 1, then 4 for a slot that is not free
-  unfoldable pub decideOpenAt : ℕ → Option Kind → SlotOf queueing → Decision
+  -- 8 for a form above 2, then 4 for a slot that is not free
+  unfoldable pub decideOpenAt : ℕ → Option Opening → SlotOf queueing → Decision
   decideOpenAt i none x = unaltered 8
-  decideOpenAt i (some k) (used c) = unaltered 4
-  decideOpenAt i (some k) free = done 0 [] (opened i k)
+  decideOpenAt i (some o) (used c) = unaltered 4
+  decideOpenAt i (some o) free = done 0 [] (opened i o)
 
   -- 2 for a slot number N or more, then as above
   unfoldable pub decideOpen : ℕ → ℕ → ℕ → SlotOf queueing → Decision
-  decideOpen N i form x = cond (ltb i N) (decideOpenAt i (kindOf form) x) (unaltered 2)
+  decideOpen N i form x = cond (ltb i N) (decideOpenAt i (openingOf form) x) (unaltered 2)
 
 -- ---- take: 2, 6, 5
 

@@ -5,7 +5,8 @@ use Rattle.octets.specs.Octets.{Bytes}
 use Rattle.protocol.specs.Terms.{number}
 use Rattle.protocol.specs.declared.Kind.{Kind}
 use Rattle.protocol.specs.declared.Refusal.{Refusal}
-use Rattle.model.specs.Events.{Event, idle, refused}
+use Rattle.model.specs.State.{Transaction}
+use Rattle.model.specs.Events.{Event, idle, refused, slipped}
 
 -- the calls after set up: open a slot in a form, feed bytes to a slot, take from a slot into so many bytes, close a
 -- slot
@@ -44,3 +45,7 @@ done n bs e = record { reply = record { answer = 0; count = n; bytes = bs }; eve
 -- answers 100 to 103 to a message of n bytes in the slot i: its client is shut
 abbrev pub refusal : ℕ → ℕ → Kind → Refusal → Decision
 refusal n i k r = record { reply = record { answer = number r; count = n; bytes = [] }; event = refused i k r }
+
+-- answers 100, 101 and 103 to such a message, whose client stays open with the transaction t
+abbrev pub slip : ℕ → ℕ → Kind → Refusal → Transaction → Decision
+slip n i k r t = record { reply = record { answer = number r; count = n; bytes = [] }; event = slipped i k r t }

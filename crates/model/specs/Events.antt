@@ -9,17 +9,17 @@ use Rattle.protocol.specs.declared.Refusal.{Refusal}
 use Rattle.model.specs.Store.{Store}
 use Rattle.model.specs.Step.{storeAfterAll}
 use Rattle.model.specs.Queueing.{Queueing}
-use Rattle.model.specs.State.{Transaction, off, ClientOf, SlotOf, free, used, StateOf, newClient}
+use Rattle.model.specs.State.{Opening, Transaction, off, ClientOf, SlotOf, free, used, StateOf, newClient}
 use Rattle.model.specs.State.{withKind, withTransaction}
-use Rattle.model.specs.Queue.{afterTake, shutBy, afterStep}
+use Rattle.model.specs.Queue.{afterTake, shutBy, withError, afterStep}
 
 -- What a call does. Each event but `idle` names its slot; of those that come from a message the kind is the client's
 -- from then on.
 pub data Event : Type 0 where
   -- nothing is altered
   idle : Event
-  -- a client of this kind is opened
-  opened : ℕ → Kind → Event
+  -- a client is opened
+  opened : ℕ → Opening → Event
   -- the client is closed
   closed : ℕ → Event
   -- the client's first message is taken
@@ -28,17 +28,20 @@ pub data Event : Type 0 where
   consumed : ℕ → Kind → Transaction → Event
   -- a message is refused, and its client is shut
   refused : ℕ → Kind → Refusal → Event
+  -- a message is refused, and its client stays open with this transaction
+  slipped : ℕ → Kind → Refusal → Transaction → Event
   -- one step is done: a single action, or those of a commit
   stepped : ℕ → Kind → List Action → Event
 
 -- the store after an event: only a step changes it
 unfoldable pub storeAfterEvent : Event → Store → Store
 storeAfterEvent idle s = s
-storeAfterEvent (opened i k) s = s
+storeAfterEvent (opened i o) s = s
 storeAfterEvent (closed i) s = s
 storeAfterEvent (took i) s = s
 storeAfterEvent (consumed i k t) s = s
 storeAfterEvent (refused i k r) s = s
+storeAfterEvent (slipped i k r t) s = s
 storeAfterEvent (stepped i k xs) s = storeAfterAll xs s
 
 module _ {queueing : Queueing} where
@@ -57,12 +60,14 @@ module _ (protocol : Protocol) {queueing : Queueing} where
   -- the slot j after an event, from what it was and the store before: only a step changes slots other than its own
   unfoldable pub slotAfterEvent : ℕ → Event → Store → ℕ → SlotOf queueing → SlotOf queueing
   slotAfterEvent Q idle s j x = x
-  slotAfterEvent Q (opened i k) s j x = cond (eqb j i) (used (newClient k)) x
+  slotAfterEvent Q (opened i o) s j x = cond (eqb j i) (used (newClient o)) x
   slotAfterEvent Q (closed i) s j x = cond (eqb j i) free x
   slotAfterEvent Q (took i) s j x = cond (eqb j i) (onClient afterTake x) x
   slotAfterEvent Q (consumed i k t) s j x = cond (eqb j i) (onClient (λ c. withTransaction t (withKind k c)) x) x
   slotAfterEvent Q (refused i k r) s j x =
       cond (eqb j i) (onClient (λ c. shutBy (protocol .written) r (withTransaction off (withKind k c))) x) x
+  slotAfterEvent Q (slipped i k r t) s j x =
+      cond (eqb j i) (onClient (λ c. withError (protocol .written) r (withTransaction t (withKind k c))) x) x
   slotAfterEvent Q (stepped i k xs) s j x =
       cond (eqb j i)
       (onClient (λ c. afterStep protocol Q true xs s (withTransaction off (withKind k c))) x)

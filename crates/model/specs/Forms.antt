@@ -9,6 +9,7 @@ module _ {A B : Queueing} (form : A .Queue → B .Queue) where
   clientWith c =
       record {
         kind = c .kind;
+        hangsUp = c .hangsUp;
         shut = c .shut;
         patterns = c .patterns;
         transaction = c .transaction;

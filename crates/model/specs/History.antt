@@ -7,7 +7,7 @@ use lib.Dec.{eqb}
 use Rattle.octets.specs.Octets.{Bytes}
 use Rattle.protocol.specs.Terms.{Protocol}
 use Rattle.model.specs.State.{Sizes, Client, Slot, free, used, State, emptyServer, slotAt}
-use Rattle.model.specs.Events.{Event, idle, opened, closed, took, consumed, refused, stepped}
+use Rattle.model.specs.Events.{Event, idle, opened, closed, took, consumed, refused, slipped, stepped}
 use Rattle.model.specs.Decision.{Call, takes}
 use Rattle.model.specs.Calls.{decide, serve}
 use Rattle.model.specs.Log.{Log, newLog, logAfterEvent, logGiven}
@@ -32,11 +32,12 @@ pastOf i (used c) l = record { slot = i; client = c; log = l } ∷ []
 -- the client that an event closes
 unfoldable pub closedBy : Event → State → (ℕ → Log) → List Past
 closedBy idle st f = []
-closedBy (opened i k) st f = []
+closedBy (opened i o) st f = []
 closedBy (closed i) st f = pastOf i (slotAt i st) (f i)
 closedBy (took i) st f = []
 closedBy (consumed i k r) st f = []
 closedBy (refused i k r) st f = []
+closedBy (slipped i k r t) st f = []
 closedBy (stepped i k xs) st f = []
 
 module _ (protocol : Protocol) where

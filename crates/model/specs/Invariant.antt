@@ -63,7 +63,7 @@ module _ (protocol : Protocol) (valid : Bytes → Bool) where
     pub open-room : c .shut ≡ false → queueCharge (c .queue) + 64 ≤ z .queueRoom
     -- every queued message is one of the server's, in the client's kind
     pub queue-encoded : (ms : List Message) × (c .queue ≡ encoded protocol (c .kind) ms)
-    -- a shut client holds no patterns and no recording
+    -- a shut client holds no patterns and no transaction
     pub shut-empty : c .shut ≡ true → (c .patterns ≡ []) × (c .transaction ≡ off)
     -- a client whose kind is not fixed yet has nothing
     pub stream-empty : c .kind ≡ Stream → (c .queue ≡ []) × (c .patterns ≡ []) × (c .transaction ≡ off)

@@ -8,6 +8,7 @@ pub mod Queue
 pub mod Events
 pub mod Decision
 pub mod Feed
+pub mod Refusals
 pub mod Calls
 pub mod Log
 pub mod History

@@ -14,7 +14,7 @@ use Rattle.model.specs.Step.{storeAfter, patternsAfter, owes}
 use Rattle.model.specs.State.{off, Client, Slot, free, used}
 use Rattle.model.specs.State.{withKind, withTransaction}
 use Rattle.model.specs.Queue.{queuedByStep}
-use Rattle.model.specs.Events.{Event, idle, opened, closed, took, consumed, refused, stepped}
+use Rattle.model.specs.Events.{Event, idle, opened, closed, took, consumed, refused, slipped, stepped}
 use Rattle.model.specs.Decision.{Call, opens, feeds, takes, closes, Reply}
 
 -- Of one client: the messages ever queued to it, ERROR included; the bytes that each of its takes gave; and for each
@@ -72,11 +72,12 @@ onLog f (used c) l = f c l
 -- one ERROR, a step queues what it owes. The log of a client that is closed stays until the slot is opened anew.
 unfoldable pub logAfterEvent : Protocol → ℕ → Event → Store → ℕ → Slot → Log → Log
 logAfterEvent protocol Q idle s j x l = l
-logAfterEvent protocol Q (opened i k) s j x l = cond (eqb j i) newLog l
+logAfterEvent protocol Q (opened i o) s j x l = cond (eqb j i) newLog l
 logAfterEvent protocol Q (closed i) s j x l = l
 logAfterEvent protocol Q (took i) s j x l = l
 logAfterEvent protocol Q (consumed i k t) s j x l = l
 logAfterEvent protocol Q (refused i k r) s j x l = cond (eqb j i) (onLog (λ c. logQueued (error r ∷ [])) x l) l
+logAfterEvent protocol Q (slipped i k r t) s j x l = cond (eqb j i) (onLog (λ c. logQueued (error r ∷ [])) x l) l
 logAfterEvent protocol Q (stepped i k xs) s j x l =
     cond (eqb j i)
     (onLog (λ c. logAfterStep protocol Q true xs s (withTransaction off (withKind k c))) x l)

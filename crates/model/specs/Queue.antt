@@ -1,5 +1,5 @@
--- A client's queue (document 01, "Queues" and "Shutting"): what messages charge, what a step queues to a client, and
--- how a client is shut.
+-- A client's queue (document 01, "Queues" and "Shutting"; document 02, P2): what messages charge, what a step queues to
+-- a client, how a client is shut, and the ERROR of one that stays open.
 use Prim.Native.Nat.{ℕ, _+_}
 use mathlib.Core.List.{List, [], _∷_, map}
 use mathlib.Core.Bool.{Bool, true, cond}
@@ -36,11 +36,16 @@ module _ {queueing : Queueing} where
   shutBy written r c =
       record {
         kind = c .kind;
+        hangsUp = c .hangsUp;
         shut = true;
         patterns = [];
         transaction = off;
         queue = appended (c .queue) (written (c .kind) (error r) ∷ []);
       }
+
+  -- the client with one ERROR more queued, where messages are written so
+  unfoldable pub withError : (Kind → Message → Bytes) → Refusal → ClientOf queueing → ClientOf queueing
+  withError written r c = withQueue (appended (c .queue) (written (c .kind) (error r) ∷ [])) c
 
 module _ (protocol : Protocol) {queueing : Queueing} where
   open Queueing queueing using (charge, appended)
@@ -49,7 +54,7 @@ module _ (protocol : Protocol) {queueing : Queueing} where
   unfoldable pub withMessages : List Message → Patterns → ClientOf queueing → ClientOf queueing
   withMessages ms ps c = withPatterns ps (withQueue (appended (c .queue) (encoded protocol (c .kind) ms)) c)
 
-  -- whether all that a step owes the client fits beside what its queue holds untaken
+  -- whether messages that are owed to the client all fit beside what its queue holds untaken
   unfoldable pub fitsAll : ℕ → List Message → ClientOf queueing → Bool
   fitsAll Q owed c = queueFits Q (charge (appended (c .queue) (encoded protocol (c .kind) owed)))
 

@@ -19,25 +19,51 @@ pub record Sizes : Type 0 where
   pub queueRoom : ℕ
   pub recordRoom : ℕ
 
--- a client's transaction: none, or the actions recorded since its BEGIN
+-- what an open asks for: how the client speaks until its first message fixes that, and whether it is of form 2, in
+-- which every refusal shuts a text client too
+pub record Opening : Type 0 where
+  pub kind : Kind
+  pub hangsUp : Bool
+
+abbrev pub openingWith : Kind → Bool → Opening
+openingWith k h = record { kind = k; hangsUp = h }
+
+-- a client's transaction: none; the actions recorded since its BEGIN; or one that a slip has spoiled, of which nothing
+-- is kept
 pub data Transaction : Type 0 where
   off : Transaction
   begun : List Action → Transaction
+  spoiled : Transaction
 
--- whether there is one
-abbrev pub isBegun : Transaction → Bool
-isBegun off = false
-isBegun (begun xs) = true
+-- whether there is one, be it spoiled
+abbrev pub isOn : Transaction → Bool
+isOn off = false
+isOn (begun xs) = true
+isOn spoiled = true
 
--- the actions recorded in it; none where there is none
+-- whether there is one that is spoiled
+abbrev pub isSpoiled : Transaction → Bool
+isSpoiled off = false
+isSpoiled (begun xs) = false
+isSpoiled spoiled = true
+
+-- the actions recorded in it; none where there is none, or where it is spoiled
 abbrev pub actionsIn : Transaction → List Action
 actionsIn off = []
 actionsIn (begun xs) = xs
+actionsIn spoiled = []
 
--- a client from its open to its close: how it speaks, whether it is shut, its patterns, its transaction, and the
--- messages not yet taken, as bytes in its kind
+-- "A slip inside a transaction spoils it" (document 02, P2)
+abbrev pub afterSlip : Transaction → Transaction
+afterSlip off = off
+afterSlip (begun xs) = spoiled
+afterSlip spoiled = spoiled
+
+-- a client from its open to its close: how it speaks, whether it was opened in form 2, whether it is shut, its
+-- patterns, its transaction, and the messages not yet taken, as bytes in its kind
 pub record ClientOf (queueing : Queueing) : Type 0 where
   pub kind : Kind
+  pub hangsUp : Bool
   pub shut : Bool
   pub patterns : Patterns
   pub transaction : Transaction
@@ -72,28 +98,64 @@ module _ {queueing : Queueing} where
   slotAt i st = getD (st .slots) i free
 
   -- a client just opened: nothing of an earlier client of the slot
-  unfoldable pub newClient : Kind → ClientOf queueing
-  newClient k = record { kind = k; shut = false; patterns = []; transaction = off; queue = empty }
+  unfoldable pub newClient : Opening → ClientOf queueing
+  newClient o =
+      record {
+        kind = o .kind;
+        hangsUp = o .hangsUp;
+        shut = false;
+        patterns = [];
+        transaction = off;
+        queue = empty;
+      }
 
   -- the client with this kind, which a message fixes
   unfoldable pub withKind : Kind → ClientOf queueing → ClientOf queueing
   withKind k c =
-      record { kind = k; shut = c .shut; patterns = c .patterns; transaction = c .transaction; queue = c .queue }
+      record {
+        kind = k;
+        hangsUp = c .hangsUp;
+        shut = c .shut;
+        patterns = c .patterns;
+        transaction = c .transaction;
+        queue = c .queue;
+      }
 
   -- the client with these patterns
   unfoldable pub withPatterns : Patterns → ClientOf queueing → ClientOf queueing
   withPatterns ps c =
-      record { kind = c .kind; shut = c .shut; patterns = ps; transaction = c .transaction; queue = c .queue }
+      record {
+        kind = c .kind;
+        hangsUp = c .hangsUp;
+        shut = c .shut;
+        patterns = ps;
+        transaction = c .transaction;
+        queue = c .queue;
+      }
 
   -- the client with this transaction
   unfoldable pub withTransaction : Transaction → ClientOf queueing → ClientOf queueing
   withTransaction t c =
-      record { kind = c .kind; shut = c .shut; patterns = c .patterns; transaction = t; queue = c .queue }
+      record {
+        kind = c .kind;
+        hangsUp = c .hangsUp;
+        shut = c .shut;
+        patterns = c .patterns;
+        transaction = t;
+        queue = c .queue;
+      }
 
   -- the client with this queue
   unfoldable pub withQueue : queueing .Queue → ClientOf queueing → ClientOf queueing
   withQueue q c =
-      record { kind = c .kind; shut = c .shut; patterns = c .patterns; transaction = c .transaction; queue = q }
+      record {
+        kind = c .kind;
+        hangsUp = c .hangsUp;
+        shut = c .shut;
+        patterns = c .patterns;
+        transaction = c .transaction;
+        queue = q;
+      }
 
 -- what recorded actions charge: each its payload plus 4
 unfoldable pub recordingCharge : List Action → ℕ

@@ -2,7 +2,8 @@
 ghost use mathlib.Core.Path.{_≡_};
 ghost use Rattle.protocol.specs.Terms;
 
-// How a client speaks. Form 0 is packets. Form 1 is a stream until its first message makes it framed or text.
+// How a client speaks. Form 0 is packets. Forms 1 and 2 are a stream until its first message makes
+// it framed or text.
 pub enum Kind {
     Packets,
     Stream,

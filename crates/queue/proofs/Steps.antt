@@ -1,4 +1,4 @@
--- Owing a message and shutting a client, on plain lists: each is put together from what its parts promise.
+-- Owing a message and queueing an ERROR, on plain lists: each is put together from what its parts promise.
 use mathlib.Core.Path.{_≡_, refl, ap, ap₂, _∙_}
 use mathlib.Core.List.{[]}
 use mathlib.Core.Bool.{Bool, true, false}
@@ -16,9 +16,10 @@ use Rattle.protocol.specs.Terms.{error}
 use Rattle.message.specs.Forms.{written}
 use Rattle.queue.specs.Rows.{row}
 use Rattle.queue.specs.Meaning.{kept, overflown, Queue, queueWith, isOverflown, keptRows}
-use Rattle.queue.specs.Meaning.{fits, owed, owing, settled}
+use Rattle.queue.specs.Meaning.{fits, owed, owing, errorFits, settled}
 use Rattle.queue.specs.Region.{head, tail, pendingEnd, flag, room, queuedOf, pendingOf, queueOf, InStep}
-use Rattle.queue.specs.Post.{Owing, Settling, Shutting}
+use Rattle.queue.specs.Region.{AtRest}
+use Rattle.queue.specs.Post.{Owing, Settling, PuttingError}
 use Rattle.queue.specs.Parts.{hasRoom, Making, Dropping}
 use Rattle.queue.specs.Parts.{pushed, Appendable, appended, Appending}
 use Rattle.queue.proofs.Rows.{length-row}
@@ -93,12 +94,28 @@ module _ (q q′ m : Bytes) (n : ℕ) (r : InStep 64 q) (e : n ≡ length m) (f 
         meaning = ap₂ queueWith (d .same-queued) (g ∙ rw (p, fits-offsets q m n r e, t));
       }
 
--- ---- shutting
+-- ---- an ERROR
 
-pub shutting : (k : Kind) (x : Refusal) (q q₁ q₂ q₃ : Bytes) (n : ℕ) → InStep 64 q → n + 4 ≤ 64
-    → Dropping 0 q q₁ → Appending (written k (error x)) n q₁ q₂ → Settling q₂ q₃ → Shutting k x q q₃
+pub errorFits-offsets : (k : Kind) (x : Refusal) (q : Bytes) (n : ℕ) → AtRest 64 q
+    → n ≡ length (written k (error x)) → errorFits (room q) k x (queueOf q) ≡ hasRoom n q
+unfolding errorFits
+errorFits-offsets k x q n r e =
+    let i : pendingEnd q - tail q ≡ 0 = omega (arith, r .none-pending) in
+    rw i at (fits-offsets q (written k (error x)) n (r .in-step) e)
+
+-- the ERROR, and 64 behind it, fit beside what is queued
+error-room : (k : Kind) (x : Refusal) (q : Bytes) (n : ℕ) → InStep 64 q → n ≡ length (written k (error x))
+    → errorFits (room q) k x (queueOf q) ≡ true → tail q + (4 + n) + 64 ≤ head q + room q
+unfolding errorFits fits
+error-room k x q n r e f =
+    let h : length (queuedOf q) + 0 + length (row (written k (error x))) + 64 ≤ room q = leb-true _ _ f in
+    omega (arith, length-queuedOf r, length-row (written k (error x)))
+
+pub putting-error : (k : Kind) (x : Refusal) (q q₁ q₂ q₃ : Bytes) (n : ℕ) → InStep 64 q → n + 4 ≤ 64
+    → n ≡ length (written k (error x)) → Dropping 0 q q₁ → Appending (written k (error x)) n q₁ q₂ → Settling q₂ q₃
+    → PuttingError k x q q₃
 unfolding keptRows
-shutting k x q q₁ q₂ q₃ n r l d a s =
+putting-error k x q q₁ q₂ q₃ n r l e d a s =
     let i : pendingEnd q₁ - tail q₁ ≡ 0 = omega (arith, d .none-pending) in
     let p : pendingOf q₁ ≡ kept [] = pendingOf-kept q₁ (d .flag-set) ∙ rw i in
     let z : length q₁ ≡ length q = d .size in
@@ -107,6 +124,9 @@ shutting k x q q₁ q₂ q₃ n r l d a s =
     let b : pendingEnd q₁ + (4 + n) + 0 ≤ head q₁ + room q₁ = omega arith in
     record {
       size = s .size ∙ a .size ∙ d .size;
-      fine = s .fine 0 (a .fine 0 b);
+      fine = (
+        s .fine 0 (a .fine 0 b),
+        λ f. s .fine 64 (a .fine 64 (omega (arith, error-room k x q n r e f))),
+      );
       meaning = s .meaning ∙ ap settled (a .meaning) ∙ rw (p, d .same-queued);
     }

@@ -1,6 +1,6 @@
 -- What a client's queue holds during a step, and what each operation makes of it (document 01, "Queues" and
--- "Shutting"). A step owes a client its messages one by one. They are pending until the step ends: then all of them are
--- queued, or none is and the client is shut. Q is the queue's room.
+-- "Shutting"; document 02, P2). A step owes a client its messages one by one. They are pending until the step ends:
+-- then all of them are queued, or none is and the client is shut. Q is the queue's room.
 -- Document 01 judges a step's messages as a whole. That owing them one by one comes to the same is the law
 -- `owedAll-kept` (proofs/Owed).
 use mathlib.Core.List.{List, [], _∷_, _++_}
@@ -52,6 +52,10 @@ unfoldable pub owedAll : ℕ → Bytes → Pending → List Bytes → Pending
 owedAll Q b p [] = p
 owedAll Q b p (m ∷ ms) = owedAll Q b (owed Q b p m) ms
 
+-- whether the ERROR of a refusal fits beside what is queued, with 64 of Q kept back
+unfoldable pub errorFits : ℕ → Kind → Refusal → Queue → Bool
+errorFits Q k r s = fits Q (s .queued) [] (length (row (written k (error r))))
+
 -- ---- the operations
 
 -- the queue that a client opens with
@@ -70,6 +74,6 @@ owing Q m s = queueWith (s .queued) (owed Q (s .queued) (s .pending) m)
 abbrev pub settled : Queue → Queue
 settled s = queueWith (s .queued ++ keptRows (s .pending)) (kept [])
 
--- the client is shut: what is pending is dropped, and the ERROR is queued in the room kept back
-abbrev pub shut : Kind → Refusal → Queue → Queue
-shut k r s = queueWith (s .queued ++ row (written k (error r))) (kept [])
+-- the ERROR of a refusal or of an overflow is queued; what is pending is dropped
+abbrev pub withError : Kind → Refusal → Queue → Queue
+withError k r s = queueWith (s .queued ++ row (written k (error r))) (kept [])

@@ -1,6 +1,7 @@
 -- What the operations on a region ask and promise. Each keeps the region's length, and says which rule holds of the
 -- region afterwards and what it then means, by a definition of Meaning applied to what it meant before.
 use mathlib.Core.Path.{_≡_}
+use mathlib.Core.Bool.{true}
 use Prim.Native.Nat.{ℕ, _≤_}
 use lib.ListN.{length}
 use lib.Seq.{sets}
@@ -8,7 +9,7 @@ use Rattle.octets.specs.Octets.{Bytes}
 use Rattle.protocol.specs.declared.Kind.{Kind}
 use Rattle.protocol.specs.declared.Refusal.{Refusal}
 use Rattle.queue.specs.Rows.{firstLength, firstMessage}
-use Rattle.queue.specs.Meaning.{Queue, empty, taken, owing, settled, shut}
+use Rattle.queue.specs.Meaning.{Queue, empty, taken, owing, settled, errorFits, withError}
 use Rattle.queue.specs.Region.{InStep, AtRest, room, queuedOf, queueOf}
 
 -- the region q has become q′, for which the rule holds and which means s
@@ -29,9 +30,11 @@ Owing m q q′ = Outcome (InStep 64 q′) q q′ (owing (room q) m (queueOf q))
 abbrev pub Settling : Bytes → Bytes → Type 0
 Settling q q′ = Outcome ((k : ℕ) → InStep k q → AtRest k q′) q q′ (settled (queueOf q))
 
--- shut_with: the ERROR is queued, and nothing is reserved any more
-abbrev pub Shutting : Kind → Refusal → Bytes → Bytes → Type 0
-Shutting k r q q′ = Outcome (AtRest 0 q′) q q′ (shut k r (queueOf q))
+-- put_error: the ERROR is queued; where it fits beside what was queued, 64 bytes are still reserved
+abbrev pub PuttingError : Kind → Refusal → Bytes → Bytes → Type 0
+PuttingError k r q q′ =
+    Outcome ((AtRest 0 q′) × (errorFits (room q) k r (queueOf q) ≡ true → AtRest 64 q′)) q q′
+    (withError k r (queueOf q))
 
 -- the first message is gone; what was reserved is reserved
 abbrev pub Removing : Bytes → Bytes → Type 0

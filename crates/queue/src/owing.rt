@@ -7,9 +7,9 @@ ghost use lib.ListN.{length};
 ghost use Rattle.message.specs.Forms.{written};
 ghost use Rattle.message.specs.Writing.{said};
 ghost use Rattle.queue.specs.Rows.{row};
-ghost use Rattle.queue.specs.Meaning.{isOverflown};
-ghost use Rattle.queue.specs.Region.{InStep, head, pendingEnd, room, pendingOf};
-ghost use Rattle.queue.specs.Post.{Owing, Settling, Shutting};
+ghost use Rattle.queue.specs.Meaning.{isOverflown, errorFits};
+ghost use Rattle.queue.specs.Region.{InStep, AtRest, head, pendingEnd, room, pendingOf, queueOf};
+ghost use Rattle.queue.specs.Post.{Owing, Settling, PuttingError};
 ghost use Rattle.queue.specs.Parts.{hasRoom, Gathering, Making};
 ghost use Rattle.queue.specs.Parts.{Writable, pushed, Appendable, Appending, Dropping};
 use message::Message;
@@ -137,11 +137,19 @@ pub fn settle(q: &mut [u8])
     put_u32(q, 4, end);
 }
 
-// Shuts the client: what is pending is dropped, and the ERROR of the refusal is queued in the room
-// that was kept back.
-pub fn shut_with(q: &mut [u8], kind: Kind, refusal: Refusal)
+// Whether the ERROR of a refusal fits in Q - 64 beside what is queued.
+pub fn error_fits(q: &[u8], kind: Kind, refusal: Refusal) -> bool
+    requires { ⌜ AtRest 64 (now q) ⌝ }
+    ensures { λ b. ⌜ b ≡ errorFits (room (now (q .entry))) kind refusal (queueOf (now (q .entry))) ⌝ }
+{
+    has_room(q, written_length(kind, Message::Error(refusal), b""))
+}
+
+// Queues the ERROR of a refusal behind what is queued, if need be in the room that was kept back;
+// what is pending is dropped.
+pub fn put_error(q: &mut [u8], kind: Kind, refusal: Refusal)
     requires { ⌜ InStep 64 (now q) ⌝ }
-    ensures { λ _. ⌜ Shutting kind refusal (now (q .entry)) (now (q .exit)) ⌝ }
+    ensures { λ _. ⌜ PuttingError kind refusal (now (q .entry)) (now (q .exit)) ⌝ }
 {
     let n = written_length(kind, Message::Error(refusal), b"");
     drop_pending(q, 0);

@@ -11,10 +11,10 @@ use borrow.Author.Tests.{eqb-true, leb-true, leb-false, le-leb, lt-leb}
 use Rattle.octets.specs.Octets.{Bytes}
 use Rattle.octets.proofs.Parts.{length-part}
 use Rattle.protocol.specs.Terms.{Action, payload}
-use Rattle.model.specs.State.{begun, isBegun, actionsIn, recordingCharge, recordingFits}
+use Rattle.model.specs.State.{isOn, isSpoiled, actionsIn, recordingCharge, recordingFits}
 use Rattle.recording.specs.Encoding.{actionsFrom, rowsFine}
-use Rattle.recording.specs.Region.{stateOf, usedOf, countOf, roomOf, rowsOf, recorded, transactionOf, sized}
-use Rattle.recording.specs.Region.{stateFine, recordingFine}
+use Rattle.recording.specs.Region.{stateOf, usedOf, countOf, roomOf, rowsOf, recorded, transactionIn}
+use Rattle.recording.specs.Region.{transactionOf, sized, stateFine, recordingFine}
 use Rattle.recording.specs.Contracts.{Fits}
 use Rattle.recording.proofs.Tests.{either, and-both, and-true-true}
 use Rattle.recording.proofs.Packed.{length-actionsFrom, recordingCharge-actionsFrom}
@@ -76,25 +76,32 @@ pub count-recorded : (r : Bytes) → countOf r ≡ length (recorded r)
 unfolding recorded
 count-recorded r = sym (length-actionsFrom (countOf r) (rowsOf r))
 
-pub isBegun-on : (r : Bytes) → isBegun (transactionOf r) ≡ not (eqb (stateOf r) 0)
-unfolding transactionOf
-isBegun-on r = either (eqb (stateOf r) 0) (λ t. rw t) (λ t. rw t)
+pub isOn-state : (state : ℕ) (xs : List Action) → isOn (transactionIn state xs) ≡ not (eqb state 0)
+unfolding transactionIn
+isOn-state state xs =
+    either (eqb state 0) (λ t. rw t) (λ t. rw t (either (eqb state 2) (λ u. rw u) (λ u. rw u)))
 
-none-counted : (state n : ℕ) → stateFine state n ≡ true → eqb state 0 ≡ true → n ≡ 0
+pub isSpoiled-state : (state : ℕ) (xs : List Action) → isSpoiled (transactionIn state xs) ≡ eqb state 2
+unfolding transactionIn
+isSpoiled-state state xs =
+    either (eqb state 0)
+    (λ t. rw (eqb-true state 0 t))
+    (λ t. rw t (either (eqb state 2) (λ u. rw u) (λ u. rw u)))
+
+-- a state beside which no action is held
+none-counted : (state n : ℕ) → stateFine state n ≡ true → eqb state 1 ≡ false → n ≡ 0
 unfolding stateFine
-none-counted state n h e = eqb-true n 0 (rw (eqb-true state 0 e) at h)
+none-counted state n h e = eqb-true n 0 (and-both (leb state 2) _ (rw e at h) .1)
 
--- the actions of the rows are those of the transaction: without one there are none
+-- the actions of the rows are those of the transaction: without one, and in a spoiled one, there are none
 pub recorded-actions : (r : Bytes) → recordingFine r ≡ true → recorded r ≡ actionsIn (transactionOf r)
-unfolding recorded transactionOf actionsFrom
+unfolding recorded transactionIn actionsFrom
 recorded-actions r h =
     either (eqb (stateOf r) 0)
-    (λ e. rw (e, none-counted (stateOf r) (countOf r) (fine-rules h .state) e))
-    (λ e. rw e)
-
-pub on-begun : (r : Bytes) → isBegun (transactionOf r) ≡ true → transactionOf r ≡ begun (recorded r)
-unfolding transactionOf
-on-begun r h = either (eqb (stateOf r) 0) (λ t. absurd (true≢false (sym (rw t at h)))) (λ t. rw t)
+    (λ e. rw (e, none-counted (stateOf r) (countOf r) (fine-rules h .state) (rw (eqb-true (stateOf r) 0 e))))
+    (λ e. rw e (either (eqb (stateOf r) 2)
+    (λ u. rw (u, none-counted (stateOf r) (countOf r) (fine-rules h .state) (rw (eqb-true (stateOf r) 2 u))))
+    (λ u. rw u)))
 
 recordingCharge-append : (xs ys : List Action) → recordingCharge (xs ++ ys) ≡ recordingCharge xs + recordingCharge ys
 unfolding recordingCharge

@@ -1,14 +1,14 @@
--- What writes make of the region: its header, an empty recording, an action added.
+-- What writes make of the region: its header, an empty recording, a slip, an action added.
 use mathlib.Core.Path.{_≡_, refl, sym, ap, _∙_}
 use mathlib.Core.List.{[], _∷_, _++_}
-use mathlib.Core.Bool.{true, cond, _&&_}
+use mathlib.Core.Bool.{true, false, _&&_}
 use Prim.Native.Nat.{ℕ, suc, _+_, _-_, _^_, _≤_, _<_}
 use native.Mathlib.Numerals.{add-one}
 use native.Mathlib.Omega.{arith}
-use lib.Dec.{eqb, leb}
+use lib.Dec.{leb}
 use lib.ListN.{length, drop, set}
 use lib.Seq.{sets, length-sets}
-use borrow.Author.Tests.{leb-true}
+use borrow.Author.Tests.{leb-true, le-leb}
 use Rattle.octets.specs.Octets.{Bytes}
 use Rattle.octets.specs.Part.{part}
 use Rattle.octets.specs.Number.{bigEndian}
@@ -16,12 +16,13 @@ use Rattle.octets.proofs.Laws.{sets-append}
 use Rattle.octets.proofs.Parts.{drop-sets, part-sets-end}
 use Rattle.octets.proofs.Numbers.{numberAt-sets-same, numberAt-sets-apart, length-bigEndian}
 use Rattle.protocol.specs.Terms.{payload}
-use Rattle.model.specs.State.{off, begun}
+use Rattle.model.specs.State.{begun, spoiled, isOn, afterSlip}
+use Rattle.model.proofs.Transactions.{afterSlip-on, afterSlip-off}
 use Rattle.recording.specs.Encoding.{actionOf, rowOf, actionsFrom, rowsFine}
-use Rattle.recording.specs.Region.{stateOf, usedOf, countOf, roomOf, rowsOf, recorded, transactionOf, sized}
-use Rattle.recording.specs.Region.{stateFine, recordingFine}
+use Rattle.recording.specs.Region.{stateOf, usedOf, countOf, roomOf, rowsOf, recorded, transactionIn}
+use Rattle.recording.specs.Region.{transactionOf, sized, stateFine, recordingFine}
 use Rattle.recording.specs.Contracts.{Becomes, headed, Addable}
-use Rattle.recording.proofs.Tests.{and-both}
+use Rattle.recording.proofs.Tests.{and-both, and-true-true}
 use Rattle.recording.proofs.Encodings.{payload-actionOf}
 use Rattle.recording.proofs.Packed.{rowsFine-append, actionsFrom-append, rowsFine-rowOf, actionsFrom-rowOf}
 use Rattle.recording.proofs.Packed.{length-rowOf}
@@ -69,7 +70,7 @@ pub record Header (r : Bytes) (s u n : ℕ) : Type 0 where
   pub room : u ≤ length r - 12
   pub few : n ≤ 64
   pub state : stateFine s n ≡ true
-  pub known : s ≤ 1
+  pub known : s ≤ 2
   pub rows : rowsFine n (part r 12 u) ≡ true
 
 headed-fine : {r : Bytes} {s u n : ℕ} → Header r s u n → recordingFine (headed r s u n) ≡ true
@@ -91,8 +92,8 @@ headed-fine {r} {s} {u} {n} w =
     })
 
 transactionOf-headed : {r : Bytes} {s u n : ℕ} → Header r s u n
-    → transactionOf (headed r s u n) ≡ cond (eqb s 0) off (begun (actionsFrom n (part r 12 u)))
-unfolding transactionOf recorded
+    → transactionOf (headed r s u n) ≡ transactionIn s (actionsFrom n (part r 12 u))
+unfolding recorded
 transactionOf-headed {r} {s} {u} {n} w =
     let hs : s < 256 ^ 4 = omega (arith, w .known) in
     let hu : u < 256 ^ 4 = omega (arith, w .room, w .short) in
@@ -100,18 +101,34 @@ transactionOf-headed {r} {s} {u} {n} w =
     rw (stateOf-headed r s u n (w .head) hs, countOf-headed r s u n (w .head) hn, rowsOf-headed r s u n (w .head) hu)
 
 -- no rows
-empty-header : (r : Bytes) (s : ℕ) → sized r ≡ true → s ≤ 1 → stateFine s 0 ≡ true → Header r s 0 0
+empty-header : (r : Bytes) (s : ℕ) → sized r ≡ true → s ≤ 2 → stateFine s 0 ≡ true → Header r s 0 0
 unfolding rowsFine
 empty-header r s h k f =
     let b = sized-bounds r h in
     record { head = b .0; short = b .1; room = omega arith; few = omega arith; state = f; known = k; rows = refl }
 
-pub becomes-empty : (r : Bytes) (s : ℕ) → sized r ≡ true → s ≤ 1 → stateFine s 0 ≡ true
-    → Becomes (cond (eqb s 0) off (begun [])) r (headed r s 0 0)
+pub becomes-empty : (r : Bytes) (s : ℕ) → sized r ≡ true → s ≤ 2 → stateFine s 0 ≡ true
+    → Becomes (transactionIn s []) r (headed r s 0 0)
 unfolding actionsFrom
 becomes-empty r s h k f =
     let e = empty-header r s h k f in
     record { fine = headed-fine e; size = length-headed r s 0 0 (e .head); holds = transactionOf-headed e }
+
+-- ---- a slip
+
+module _ {r : Bytes} (h : recordingFine r ≡ true) where
+  spoiled-header : Becomes spoiled r (headed r 2 0 0)
+  unfolding transactionIn stateFine sized
+  spoiled-header =
+      let w = fine-rules h in
+      becomes-empty r 2 (and-true-true (le-leb 12 (length r) (w .head)) (le-leb (length r) 262156 (w .short)))
+      (omega arith) refl
+
+  pub becomes-spoiled : isOn (transactionOf r) ≡ true → Becomes (afterSlip (transactionOf r)) r (headed r 2 0 0)
+  becomes-spoiled e = rw (afterSlip-on (transactionOf r) e) spoiled-header
+
+  pub becomes-same : isOn (transactionOf r) ≡ false → Becomes (afterSlip (transactionOf r)) r r
+  becomes-same e = rw (afterSlip-off (transactionOf r) e) (record { fine = h; size = refl; holds = refl })
 
 -- ---- an action added
 
@@ -180,10 +197,11 @@ module _ (r : Bytes) (id : ℕ) (p : Bytes) (w : Addable r id p) where
 
   pub becomes-added : Becomes (begun (recorded r ++ (actionOf id p ∷ []))) r
       (headed (added r id p) 1 (usedOf r + 4 + length p) (countOf r + 1))
+  unfolding transactionIn
   becomes-added =
       record {
         fine = headed-fine added-header;
         size = length-headed (added r id p) 1 (usedOf r + 4 + length p) (countOf r + 1) (added-header .head)
             ∙ length-added;
-        holds = transactionOf-headed added-header ∙ ap begun added-actions;
+        holds = transactionOf-headed added-header ∙ ap (transactionIn 1) added-actions;
       }

@@ -33,10 +33,9 @@ headed r state used n = sets (sets (sets r 0 (bigEndian 4 state)) 4 (bigEndian 4
 pub record Fits (r : Bytes) (n : ℕ) (b : Bool) : Type 0 where
   pub value : (a : Action) → length (payload a) ≡ n → b ≡ recordingFits (roomOf r) (recorded r ++ (a ∷ []))
 
--- an action with this ID and payload can be added to what is being recorded
+-- an action with this ID and payload can be added to what is recorded
 pub record Addable (r : Bytes) (id : ℕ) (p : Bytes) : Type 0 where
   pub fine : recordingFine r ≡ true
-  pub on : transactionOf r ≡ begun (recorded r)
   pub known : actionFine id (length p) ≡ true
   pub fits : recordingFits (roomOf r) (recorded r ++ (actionOf id p ∷ [])) ≡ true
 

@@ -8,11 +8,11 @@ use Rattle.octets.specs.Octets.{Bytes, ascii, firstNul}
 use Rattle.octets.specs.Order.{same}
 use Rattle.octets.specs.Number.{digits, number, numberAt, bigEndian}
 use Rattle.protocol.specs.Terms.{write, ping, payload, valueTail}
-use Rattle.model.specs.State.{off, begun}
+use Rattle.model.specs.State.{off, begun, spoiled}
 use Rattle.recording.specs.Encoding.{valueBehind, writeFrom, actionOf, actionFine, rowOf, rowSize, rowPayload}
 use Rattle.recording.specs.Encoding.{actionAt, rowFine, actionsFrom, rowsFine}
-use Rattle.recording.specs.Region.{stateOf, usedOf, countOf, rowsOf, recorded, transactionOf, sized, stateFine}
-use Rattle.recording.specs.Region.{recordingFine}
+use Rattle.recording.specs.Region.{stateOf, usedOf, countOf, rowsOf, recorded, transactionIn, transactionOf}
+use Rattle.recording.specs.Region.{sized, stateFine, recordingFine}
 use Rattle.recording.specs.Turn.{bodyFor, lastBody, valueIn, actionsBefore, earlier, bodyAtTurn}
 
 -- ---- a WRITE: no NUL deletes, an empty value is a value, and a value may hold NULs
@@ -69,29 +69,37 @@ row-first = refl
 
 recorded-three : transactionOf (region 1 17 3)
     ≡ begun (write (ascii "k") none ∷ write (ascii "k") (some (ascii "v")) ∷ ping (ascii "x") ∷ [])
-unfolding region rows-three transactionOf recorded stateOf usedOf countOf rowsOf numberAt number digits
+unfolding region rows-three transactionIn recorded stateOf usedOf countOf rowsOf numberAt number digits
     actionsFrom actionAt rowPayload rowSize actionOf writeFrom valueBehind firstNul ascii
 recorded-three = refl
 
 not-recording : transactionOf (region 0 0 0) ≡ off
-unfolding region rows-three transactionOf stateOf numberAt number digits
+unfolding region rows-three transactionIn stateOf numberAt number digits
 not-recording = refl
 
--- whole, none, and empty recordings are fine; a row cut short, a row too many, an unknown state, actions in state 0,
--- and used bytes past the room are not
+spoiled-one : transactionOf (region 2 0 0) ≡ spoiled
+unfolding region rows-three transactionIn stateOf numberAt number digits
+spoiled-one = refl
+
+-- whole, none, empty and spoiled recordings are fine; a row cut short, a row too many, an unknown state, actions in
+-- states 0 and 2, used bytes in state 2, and used bytes past the room are not
 rules : List Bool
 rules =
     recordingFine (region 1 17 3)
     ∷ recordingFine (region 0 0 0)
     ∷ recordingFine (region 1 0 0)
+    ∷ recordingFine (region 2 0 0)
     ∷ recordingFine (region 1 16 3)
     ∷ recordingFine (region 1 17 2)
+    ∷ recordingFine (region 3 0 0)
     ∷ recordingFine (region 2 17 3)
+    ∷ recordingFine (region 2 5 0)
     ∷ recordingFine (region 0 17 3)
     ∷ recordingFine (region 1 21 3)
     ∷ []
 
-rules-hold : rules ≡ true ∷ true ∷ true ∷ false ∷ false ∷ false ∷ false ∷ false ∷ []
+rules-hold : rules
+    ≡ true ∷ true ∷ true ∷ true ∷ false ∷ false ∷ false ∷ false ∷ false ∷ false ∷ false ∷ []
 unfolding rules region rows-three recordingFine sized stateFine stateOf usedOf countOf rowsOf numberAt number digits
     rowsFine rowFine rowSize actionFine
 rules-hold = refl

@@ -1,7 +1,8 @@
--- The recording region of a slot: state 4 (0 none, 1 recording), used bytes 4, number of actions 4, then the record
--- room of R bytes, whose first used bytes are the actions' rows. Its rules (`recordingFine`) and its meaning
--- (`transactionOf`): what a client has recorded since its BEGIN (document 01, "The simple server", BEGIN). Numbers have
--- the highest byte first. The bytes behind the rows have no rule.
+-- The recording region of a slot: state 4 (0 none, 1 recording, 2 spoiled), used bytes 4, number of actions 4, then the
+-- record room of R bytes, whose first used bytes are the actions' rows. Its rules (`recordingFine`) and its meaning
+-- (`transactionOf`): what a client has recorded since its BEGIN (document 01, "The simple server", BEGIN), or that its
+-- transaction is spoiled (document 02, P2). Numbers have the highest byte first. The bytes behind the rows have no
+-- rule.
 use Prim.Native.Nat.{ℕ, _-_}
 use mathlib.Core.List.{List}
 use mathlib.Core.Bool.{Bool, cond, _&&_, _||_}
@@ -11,7 +12,7 @@ use Rattle.octets.specs.Octets.{Bytes}
 use Rattle.octets.specs.Part.{part}
 use Rattle.octets.specs.Number.{numberAt}
 use Rattle.protocol.specs.Terms.{Action}
-use Rattle.model.specs.State.{off, begun, Transaction}
+use Rattle.model.specs.State.{off, begun, spoiled, Transaction}
 use Rattle.recording.specs.Encoding.{actionsFrom, rowsFine}
 
 unfoldable pub stateOf : Bytes → ℕ
@@ -35,20 +36,24 @@ rowsOf r = part r 12 (usedOf r)
 unfoldable pub recorded : Bytes → List Action
 recorded r = actionsFrom (countOf r) (rowsOf r)
 
--- what the region means: no transaction, or one with the actions recorded so far, in order
-unfoldable pub transactionOf : Bytes → Transaction
-transactionOf r = cond (eqb (stateOf r) 0) off (begun (recorded r))
+-- what a state means beside these actions
+unfoldable pub transactionIn : ℕ → List Action → Transaction
+transactionIn state xs = cond (eqb state 0) off (cond (eqb state 2) spoiled (begun xs))
+
+-- what the region means: no transaction, one with the actions recorded so far, in order, or a spoiled one
+abbrev pub transactionOf : Bytes → Transaction
+transactionOf r = transactionIn (stateOf r) (recorded r)
 
 -- whether a region has the size of a recording: R is at most 262,144
 unfoldable pub sized : Bytes → Bool
 sized r = leb 12 (length r) && leb (length r) 262156
 
--- the state is 1, or it is 0 and no action is held
+-- the state is 1, or it is 0 or 2 and no action is held
 unfoldable pub stateFine : ℕ → ℕ → Bool
-stateFine state n = eqb state 1 || (eqb state 0 && eqb n 0)
+stateFine state n = eqb state 1 || (leb state 2 && eqb n 0)
 
 -- The rules: the size; used bytes within R; at most 64 actions; a state that is known; and the used bytes are just so
--- many whole rows, so that in state 0 none is used.
+-- many whole rows, so that in states 0 and 2 none is used.
 unfoldable pub recordingFine : Bytes → Bool
 recordingFine r =
     sized r

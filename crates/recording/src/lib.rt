@@ -1,8 +1,9 @@
-// The recording region of a slot: the actions that a client has recorded since its BEGIN, in lent
-// bytes. State 4 (0 none, 1 recording), used bytes 4, number of actions 4, then the record room of
-// R bytes, in whose first used bytes each action has a row: ID 1, payload length 3, payload.
-// Offsets count from the start of the room. A function that writes leaves open the bytes of the
-// room behind the rows. Internal layer: what a function requires is its callers' to show.
+// The recording region of a slot: a client's transaction, with the actions that it has recorded
+// since its BEGIN, in lent bytes. State 4 (0 none, 1 recording, 2 spoiled), used bytes 4, number of
+// actions 4, then the record room of R bytes, in whose first used bytes each action has a row: ID
+// 1, payload length 3, payload. Offsets count from the start of the room. A function that writes
+// leaves open the bytes of the room behind the rows. Internal layer: what a function requires is
+// its callers' to show.
 mod rows;
 mod turn;
 
@@ -19,16 +20,19 @@ ghost use lib.ListN.{length};
 ghost use Rattle.recording.specs.Region.{sized, stateFine, recorded};
 ghost use Rattle.recording.specs.Region.{transactionOf, recordingFine};
 ghost use Rattle.recording.specs.Contracts.{Becomes, headed, extended, Fits, Addable};
-ghost use Rattle.model.specs.State.{off, begun, isBegun};
+ghost use Rattle.model.specs.State.{off, begun, isOn, isSpoiled, afterSlip};
 
 // Whether a state is known and goes with n actions.
 fn is_state(state: usize, n: usize) -> bool
     ensures { λ b. ⌜ b ≡ stateFine state n ⌝ }
 {
+    if state == 0 {
+        return n == 0;
+    }
     if state == 1 {
         return true;
     }
-    if state == 0 {
+    if state == 2 {
         return n == 0;
     }
     false
@@ -59,12 +63,20 @@ pub fn is_fine(r: &[u8]) -> bool
     rows_fine(&r[12..12 + used], n)
 }
 
-// Whether r is recording.
+// Whether r holds a transaction, be it spoiled.
 pub fn is_on(r: &[u8]) -> bool
     requires { ⌜ recordingFine (now r) ≡ true ⌝ }
-    ensures { λ b. ⌜ b ≡ isBegun (transactionOf (now (r .entry))) ⌝ }
+    ensures { λ b. ⌜ b ≡ isOn (transactionOf (now (r .entry))) ⌝ }
 {
     octets::u32_at(r, 0) != 0
+}
+
+// Whether r holds a transaction that is spoiled.
+pub fn is_spoiled(r: &[u8]) -> bool
+    requires { ⌜ recordingFine (now r) ≡ true ⌝ }
+    ensures { λ b. ⌜ b ≡ isSpoiled (transactionOf (now (r .entry))) ⌝ }
+{
+    octets::u32_at(r, 0) == 2
 }
 
 // The number of actions.
@@ -93,12 +105,22 @@ pub fn begin(r: &mut [u8])
     put_header(r, 1, 0, 0);
 }
 
-// Ends the recording, whatever r held.
+// Ends the transaction, whatever r held.
 pub fn clear(r: &mut [u8])
     requires { ⌜ sized (now r) ≡ true ⌝ }
     ensures { λ _. ⌜ Becomes off (now (r .entry)) (now (r .exit)) ⌝ }
 {
     put_header(r, 0, 0, 0);
+}
+
+// A slip: the transaction, where there is one, is spoiled, and its actions are dropped.
+pub fn spoil(r: &mut [u8])
+    requires { ⌜ recordingFine (now r) ≡ true ⌝ }
+    ensures { λ _. ⌜ Becomes (afterSlip (transactionOf (now (r .entry)))) (now (r .entry)) (now (r .exit)) ⌝ }
+{
+    if is_on(&r[..]) {
+        put_header(r, 2, 0, 0);
+    }
 }
 
 // Whether one action more, with a payload of n bytes, fits: it is at most the 64th, and the

@@ -12,10 +12,11 @@ use Rattle.protocol.specs.Terms.{Action, Message, Protocol}
 use Rattle.protocol.specs.declared.Refusal.the-variants.{Room}
 use Rattle.model.specs.Store.{Store}
 use Rattle.model.specs.Step.{owesAll, patternsAfterAll}
-use Rattle.model.specs.Events.{Event, idle, opened, closed, took, consumed, refused, stepped, onClient, eachSlot}
+use Rattle.model.specs.Events.{Event, idle, opened, closed, took, consumed, refused, slipped, stepped}
+use Rattle.model.specs.Events.{onClient, eachSlot}
 use Rattle.model.specs.Events.{slotAfterEvent, afterEvent}
 use Rattle.model.specs.State.{off, free, used, slotAt, newClient, withKind, withPatterns, withTransaction, withQueue}
-use Rattle.model.specs.Queue.{afterTake, fitsAll, withMessages, shutBy, afterStep}
+use Rattle.model.specs.Queue.{afterTake, fitsAll, withMessages, shutBy, withError, afterStep}
 use Rattle.queue.specs.Meaning.{kept}
 use Rattle.slot.specs.Image.{ClientImage, SlotImage, Resting}
 use Rattle.memory.specs.Layout.{sizesOf}
@@ -97,7 +98,7 @@ module _ (protocol : Protocol) where
 
   resting-event : (Q : ℕ) (e : Event) (s : Store) (j : ℕ) (x : SlotImage) → Resting x
       → Resting (slotAfterEvent protocol Q e s j x)
-  unfolding slotAfterEvent newClient afterTake withQueue withTransaction withKind shutBy
+  unfolding slotAfterEvent newClient afterTake withQueue withTransaction withKind shutBy withError
   resting-event Q idle s j x r = r
   resting-event Q (opened i k) s j x r = resting-if (eqb j i) _ _ (resting-kept refl) r
   resting-event Q (closed i) s j x r = resting-if (eqb j i) _ _ resting-free r
@@ -109,6 +110,10 @@ module _ (protocol : Protocol) where
   resting-event Q (refused i k o) s j x r =
       resting-if (eqb j i) _ _
       (resting-client (λ c. shutBy (protocol .written) o (withTransaction off (withKind k c)))
+      (λ c p. resting-kept refl) x r) r
+  resting-event Q (slipped i k o t) s j x r =
+      resting-if (eqb j i) _ _
+      (resting-client (λ c. withError (protocol .written) o (withTransaction t (withKind k c)))
       (λ c p. resting-kept refl) x r) r
   resting-event Q (stepped i k xs) s j x r =
       resting-if (eqb j i) _ _

@@ -10,10 +10,12 @@ use borrow.Author.Tests.{lt-ltb, le-ltb, ltb-true, ltb-false, leb-true, leb-fals
 use Rattle.protocol.specs.Terms.{Protocol}
 use Rattle.protocol.specs.declared.Kind.{Kind}
 use Rattle.protocol.specs.declared.Refusal.{Refusal}
-use Rattle.model.specs.Events.{idle, opened, closed, took, consumed, refused, storeAfterEvent, onClient, eachSlot}
-use Rattle.model.specs.Queue.{shutBy}
+use Rattle.model.specs.Events.{idle, opened, closed, took, consumed, refused, slipped, storeAfterEvent, onClient}
+use Rattle.model.specs.Events.{eachSlot}
+use Rattle.model.specs.Queue.{shutBy, withError}
+use Rattle.message.specs.Forms.{written}
 use Rattle.slot.specs.Image as I
-use Rattle.model.specs.State.{Transaction, off, free, used, newClient, withKind, withTransaction}
+use Rattle.model.specs.State.{Opening, Transaction, off, free, used, newClient, withKind, withTransaction, withQueue}
 use Rattle.model.specs.Queue.{afterTake}
 use Rattle.slot.specs.Image.{SlotImage}
 use Rattle.memory.specs.Image.{Image, withStore, withSlots, onSlot, onSlots}
@@ -27,7 +29,7 @@ module _ (protocol : Protocol) (im : Image) where
   unfolding afterEvent storeAfterEvent slotAfterEvent withStore onSlots withSlots
   afterEvent-idle = ap (λ (l : List SlotImage). withSlots l im) (each-same (λ j x. x) (λ j x. refl) 0 (im .slots))
 
-  pub afterEvent-opened : (i : ℕ) (k : Kind)
+  pub afterEvent-opened : (i : ℕ) (k : Opening)
       → afterEvent protocol (opened i k) im ≡ onSlot i (λ x. used (newClient k)) im
   unfolding afterEvent storeAfterEvent slotAfterEvent withStore onSlots withSlots
   afterEvent-opened i k = sym (onSlot-only i (λ x. used (newClient k)) im)
@@ -51,6 +53,13 @@ module _ (protocol : Protocol) (im : Image) where
   unfolding afterEvent storeAfterEvent slotAfterEvent withStore onSlots withSlots shutBy
   afterEvent-refused w i k r =
       rw w (sym (onSlot-only i (onClient (λ c. I.refused r (withTransaction off (withKind k c)))) im))
+
+  pub afterEvent-slipped : WritesByMessage protocol → (i : ℕ) (k : Kind) (r : Refusal) (t : Transaction)
+      → afterEvent protocol (slipped i k r t) im
+      ≡ onSlot i (onClient (λ c. withError written r (withTransaction t (withKind k c)))) im
+  unfolding afterEvent storeAfterEvent slotAfterEvent withStore onSlots withSlots withError withQueue
+  afterEvent-slipped w i k r t =
+      rw w (sym (onSlot-only i (onClient (λ c. withError written r (withTransaction t (withKind k c)))) im))
 
 -- ---- all slots, one after the other
 

@@ -18,14 +18,14 @@ use Rattle.recording.specs.Encoding.{actionOf}
 use Rattle.recording.specs.Region.{sized}
 use Rattle.recording.specs.Region as recordings
 use Rattle.recording.specs.Contracts as recording
-use Rattle.recording.proofs.Regions.{fine-rules, recorded-actions, on-begun}
+use Rattle.recording.proofs.Regions.{fine-rules, recorded-actions}
 use Rattle.subscriptions.specs.Region.{patternsOf}
 use Rattle.subscriptions.specs.Contracts as subscriptions
 use Rattle.subscriptions.proofs.Cells.{length-patternsOf}
 use Rattle.subscriptions.proofs.Cells as cells
 use Rattle.model.specs.State.{begun, Transaction, actionsIn, used, withPatterns, withTransaction, withQueue}
 use Rattle.slot.specs.Image.{recorded, owed}
-use Rattle.slot.specs.Region.{phaseOf, kindByte, subscriptionsPart, recordingPart, queuePart, kindNumbered, clientOf}
+use Rattle.slot.specs.Region.{phaseOf, kindByte, subscriptionsPart, recordingPart, queuePart, kindIn, clientOf}
 use Rattle.slot.specs.Region.{reserveOf, ClientRules}
 use Rattle.slot.specs.Contracts.{roomOf, HasClient, HasOpen, Becomes, Fits, Recordable, Addable}
 use Rattle.slot.proofs.Operations.{length-recordingPart, room-queuePart, lent-recording, sized-recordingPart, back-subscriptions}
@@ -86,7 +86,6 @@ unfolding clientOf
 recordable-part {R} {id} {s} {p} a =
     record {
       fine = a .client .rules .recording;
-      on = on-begun (recordingPart R s) (a .on);
       known = a .known;
       fits = rw (room-part (a .client .rules), ← (recorded-part (a .client .rules))) (a .fits);
     }
@@ -107,7 +106,7 @@ pub lent-queued : {R : ℕ} {s v : Bytes} {x : Queue} {Rule : Type 0} → HasCli
 lent-queued {R} {s} {v} h o i =
     rw (back-queue R s v (omega (arith, h .rules .sized)) (o .size)) (becomes-queue h (o .size) i (o .meaning))
 
-pub lent-owed : {R : ℕ} {s v : Bytes} (m : Message) (k : Kind) → HasOpen R s → k ≡ kindNumbered (kindByte s)
+pub lent-owed : {R : ℕ} {s v : Bytes} (m : Message) (k : Kind) → HasOpen R s → k ≡ kindIn (kindByte s)
     → Outcome (InStep 64 v) (queuePart R s) v (owing (room (queuePart R s)) (written k m) (queueOf (queuePart R s)))
     → Becomes R s (putMid (4116 + R) (length s - (4116 + R)) s v) (used (owed (roomOf R s) m (clientOf R s)))
 unfolding owed clientOf

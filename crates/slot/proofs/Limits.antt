@@ -10,14 +10,14 @@ use Rattle.octets.specs.Octets.{Bytes}
 use Rattle.octets.specs.Part.{part}
 use Rattle.octets.proofs.Parts.{length-part}
 use Rattle.protocol.specs.Terms.{Action}
-use Rattle.model.specs.State.{Transaction, begun, isBegun, actionsIn, recordingCharge, recordingFits}
+use Rattle.model.specs.State.{Transaction, begun, actionsIn, recordingCharge, recordingFits}
 use Rattle.queue.specs.Meaning.{kept, keptRows, isOverflown}
 use Rattle.queue.specs.Region.{InStep, pendingOf, tail, pendingEnd}
 use Rattle.queue.proofs.Regions.{length-queuedOf, pendingOf-kept, kept-flag}
-use Rattle.recording.specs.Region.{transactionOf, usedOf, countOf}
+use Rattle.recording.specs.Region.{usedOf, countOf}
 use Rattle.recording.specs.Region as recordings
 use Rattle.recording.proofs.Tests.{and-true-true}
-use Rattle.recording.proofs.Regions.{fine-rules, used-charge, count-recorded, on-begun}
+use Rattle.recording.proofs.Regions.{fine-rules, used-charge, count-recorded, recorded-actions}
 use Rattle.slot.specs.Region.{phaseOf, recordingPart, clientOf, Bare}
 use Rattle.slot.specs.Contracts.{roomOf, HasClient, HasOpen}
 use Rattle.slot.proofs.Operations.{length-recordingPart, room-queuePart, open-queue}
@@ -64,16 +64,13 @@ pub shut-bare : {R : ℕ} {s : Bytes} → HasClient R s → clientOf R s .shut �
 unfolding clientOf
 shut-bare {R} {s} h e = h .rules .bare (eqb-true (phaseOf s) 2 e)
 
-begun-is : {xs : List Action} (m : Transaction) → m ≡ begun xs → isBegun m ≡ true
-begun-is m e = ap isBegun e
-
 pub client-recording : {R : ℕ} {s : Bytes} {xs : List Action} → HasClient R s → clientOf R s .transaction ≡ begun xs
     → recordingFits R xs ≡ true
 unfolding clientOf recordingFits
 client-recording {R} {s} {xs} h e =
     let r = recordingPart R s in
     let w = fine-rules (h .rules .recording) in
-    let g : recordings.recorded r ≡ xs = ap actionsIn (sym (on-begun r (begun-is (transactionOf r) e)) ∙ e) in
+    let g : recordings.recorded r ≡ xs = recorded-actions r (h .rules .recording) ∙ ap actionsIn e in
     let l : countOf r ≡ length xs = count-recorded r ∙ ap length g in
     let u : usedOf r ≡ recordingCharge xs = used-charge r (h .rules .recording) ∙ ap recordingCharge g in
     and-true-true (le-leb (length xs) 64 (omega (arith, w .few)))

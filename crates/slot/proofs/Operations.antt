@@ -1,15 +1,17 @@
 -- What an operation on one region, or on a head byte, makes of a slot with a client.
 use mathlib.Core.Path.{_≡_, refl, ap, _∙_}
 use mathlib.Core.List.{[], _∷_, append-nil}
-use mathlib.Core.Bool.{true}
+use mathlib.Core.Bool.{Bool, true, false}
 use Prim.Native.Nat.{ℕ, _+_, _-_, _/_, _≤_}
+use native.Mathlib.Nat.{add-zero}
 use native.Mathlib.Omega.{arith}
-use lib.ListN.{length, take, drop, set, length-drop}
+use lib.Dec.{leb}
+use lib.ListN.{length, take, drop, set, length-drop, length-append}
 use lib.Seq.{sets, length-sets, getD-set-same, take-all}
 use borrow.Author.Tests.{le-leb}
 use borrow.Rule.Slice.PartMut.{putMid}
 use Rattle.octets.specs.Octets.{Bytes}
-use Rattle.octets.proofs.Parts.{length-part, lent-part}
+use Rattle.octets.proofs.Parts.{length-part, lent-part, drop-sets}
 use Rattle.protocol.specs.Terms.{error}
 use Rattle.protocol.specs.declared.Kind.{Kind}
 use Rattle.protocol.specs.declared.Kind.the-variants.{Packets, Stream, Framed, Text}
@@ -18,21 +20,22 @@ use Rattle.model.specs.Patterns.{Patterns}
 use Rattle.message.specs.Forms.{written}
 use Rattle.queue.specs.Rows.{row, rows}
 use Rattle.queue.specs.Meaning as Q
-use Rattle.queue.specs.Meaning.{Queue}
-use Rattle.queue.specs.Region.{InStep, AtRest, queueOf, room}
-use Rattle.queue.specs.Post.{Outcome, Clearing}
+use Rattle.queue.specs.Meaning.{Queue, fits}
+use Rattle.queue.specs.Meaning.{errorFits as fitsBehind}
+use Rattle.queue.specs.Region.{InStep, queueOf, room}
+use Rattle.queue.specs.Post.{Clearing, PuttingError}
 use Rattle.recording.specs.Region.{recordingFine, transactionOf, sized}
 use Rattle.recording.specs.Contracts as recording
 use Rattle.recording.proofs.Regions as R
 use Rattle.subscriptions.specs.Region.{subscriptionsFine, patternsOf}
 use Rattle.subscriptions.specs.Contracts as subscriptions
 use Rattle.model.specs.State.{Transaction, free, used, newClient, withKind, withPatterns, withTransaction, withQueue}
-use Rattle.model.specs.State.{off}
-use Rattle.model.specs.Queue.{shutBy}
+use Rattle.model.specs.State.{openingWith, off, afterSlip}
+use Rattle.model.specs.Queue.{queueFits, shutBy, withError}
 use Rattle.slot.specs.Image.{inBytes}
-use Rattle.slot.specs.Image.{refused}
-use Rattle.slot.specs.Region.{phaseOf, kindByte, subscriptionsPart, recordingPart, queuePart, kindNumber, kindNumbered, clientOf}
-use Rattle.slot.specs.Region.{reserveOf}
+use Rattle.slot.specs.Image.{refused, errorFits, slipped}
+use Rattle.slot.specs.Region.{phaseOf, kindByte, subscriptionsPart, recordingPart, queuePart, kindNumber}
+use Rattle.slot.specs.Region.{kindNumbered, kindIn, hangsUpIn, byteFor, clientOf, reserveOf}
 use Rattle.slot.specs.Contracts.{roomOf, HasClient, HasOpen, Sized, Becomes, Stripping}
 use Rattle.slot.proofs.Slots.{Holds, holds, holds-subscriptions, holds-recording, holds-queue, holds-phase, holds-kind}
 use Rattle.slot.proofs.Slots.{image, Fine, client-fine, open-fine, slotOf-free, becomes}
@@ -90,12 +93,25 @@ kindNumber-most Stream = omega arith
 kindNumber-most Framed = omega arith
 kindNumber-most Text = omega arith
 
-pub kindNumbered-number : (k : Kind) → kindNumbered (kindNumber k) ≡ k
-unfolding kindNumbered
-kindNumbered-number Packets = refl
-kindNumbered-number Stream = refl
-kindNumbered-number Framed = refl
-kindNumbered-number Text = refl
+-- a byte says this kind and this form
+pub record Says (b : ℕ) (k : Kind) (hangsUp : Bool) : Type 0 where
+  pub small : b ≤ 7
+  pub kind : kindIn b ≡ k
+  pub form : hangsUpIn b ≡ hangsUp
+
+pub says-byteFor : (k : Kind) (hangsUp : Bool) → Says (byteFor k hangsUp) k hangsUp
+unfolding byteFor kindNumbered
+says-byteFor Packets true = record { small = omega arith; kind = refl; form = refl }
+says-byteFor Packets false = record { small = omega arith; kind = refl; form = refl }
+says-byteFor Stream true = record { small = omega arith; kind = refl; form = refl }
+says-byteFor Stream false = record { small = omega arith; kind = refl; form = refl }
+says-byteFor Framed true = record { small = omega arith; kind = refl; form = refl }
+says-byteFor Framed false = record { small = omega arith; kind = refl; form = refl }
+says-byteFor Text true = record { small = omega arith; kind = refl; form = refl }
+says-byteFor Text false = record { small = omega arith; kind = refl; form = refl }
+
+pub says : {b : ℕ} (k : Kind) (hangsUp : Bool) → b ≡ byteFor k hangsUp → Says b k hangsUp
+says k hangsUp e = rw e (says-byteFor k hangsUp)
 
 -- ---- a client that is open
 
@@ -116,27 +132,24 @@ open-with {R} {s} {p} {r} {q} h a b c =
 
 -- ---- one region replaced
 
-pub becomes-kind : {R : ℕ} {s : Bytes} {k : Kind} (b : ℕ) → HasClient R s → b ≤ 3 → kindNumbered b ≡ k
+pub becomes-kind : {R : ℕ} {s : Bytes} {k : Kind} (b : ℕ) → HasClient R s → Says b k (hangsUpIn (kindByte s))
     → Becomes R s (set s 1 b) (used (withKind k (clientOf R s)))
 unfolding clientOf withKind
-becomes-kind {R} {s} {k} b h l e =
+becomes-kind {R} {s} {k} b h l =
     let w = client-fine h in
     becomes (holds-kind (w .sized) (holds R s) b)
     (record {
       sized = w .sized;
       taken-up = w .taken-up;
       phase = w .phase;
-      kind = l;
+      kind = l .small;
       subscriptions = w .subscriptions;
       recording = w .recording;
       queue = w .queue;
       no-patterns = w .no-patterns;
       no-recording = w .no-recording;
     })
-    (ap
-    (λ (x : Kind).
-    withKind x (image (phaseOf s) (kindByte s) (subscriptionsPart s) (recordingPart R s) (queuePart R s)))
-    e)
+    (rw (l .kind, l .form))
 
 pub becomes-patterns : {R : ℕ} {s v : Bytes} {ps : Patterns} → HasOpen R s
     → subscriptions.Becomes ps (subscriptionsPart s) v → Becomes R s (sets s 4 v) (used (withPatterns ps (clientOf R s)))
@@ -185,7 +198,11 @@ becomes-queue {R} {s} {v} {x} h l i e =
     withQueue x (image (phaseOf s) (kindByte s) (subscriptionsPart s) (recordingPart R s) (queuePart R s)))
     e)
 
--- ---- opening, closing and shutting
+-- the queue behind a recording that is replaced
+pub queue-behind : (R : ℕ) (s v : Bytes) → length v ≡ 12 + R → queuePart R (sets s 4104 v) ≡ queuePart R s
+queue-behind R s v l = drop-sets s 4104 v (4116 + R) (omega arith)
+
+-- ---- opening, closing, shutting and slipping
 
 pub becomes-free : (R : ℕ) (s : Bytes) → 1 ≤ length s → Becomes R s (set s 0 0) free
 becomes-free R s h =
@@ -227,33 +244,43 @@ holds-stripped h w =
       queue = w .same-queue ∙ h .queue;
     }
 
-pub becomes-opened : {R : ℕ} {s s₁ q : Bytes} {k : Kind} (b : ℕ) → Sized R s → Stripping R (set (set s 0 1) 1 b) s₁
-    → Clearing (queuePart R s₁) q → b ≤ 3 → kindNumbered b ≡ k
-    → Becomes R s (sets s₁ (4116 + R) q) (used (newClient k))
+pub becomes-opened : {R : ℕ} {s s₁ q : Bytes} {k : Kind} {hangsUp : Bool} (b : ℕ) → Sized R s
+    → Stripping R (set (set s 0 1) 1 b) s₁ → Clearing (queuePart R s₁) q → Says b k hangsUp
+    → Becomes R s (sets s₁ (4116 + R) q) (used (newClient (openingWith k hangsUp)))
 unfolding newClient clientOf
-becomes-opened {R} {s} {s₁} {q} {k} b z w bq l e =
+becomes-opened {R} {s} {s₁} {q} {k} {hangsUp} b z w bq l =
     let n : 4132 + R ≤ length s = omega (arith, z .queue-room) in
     let h = holds-stripped (holds-kind n (holds-phase n (holds R s) 1) b) w in
     let g : Clearing (queuePart R s) q = rw (h .queue) at bq in
     let m : 64 ≤ room (queuePart R s) = rw (room-queuePart R s) (omega (arith, z .queue-room)) in
     becomes (holds-queue n h q (g .size))
-    (open-fine n l (w .subscriptions) (w .recording) (g .fine 64 m .in-step))
-    (rw (e, w .bare .no-patterns, w .bare .no-recording, g .meaning))
+    (open-fine n (l .small) (w .subscriptions) (w .recording) (g .fine 64 m .in-step))
+    (rw (l .kind, l .form, w .bare .no-patterns, w .bare .no-recording, g .meaning))
 
 -- one message queued is one row more
-pub shut-queued : (k : Kind) (x : Refusal) (q : Queue) → Q.shut k x q ≡ inBytes .appended q (written k (error x) ∷ [])
+error-queued : (k : Kind) (x : Refusal) (q : Queue) → Q.withError k x q ≡ inBytes .appended q (written k (error x) ∷ [])
 unfolding rows
-shut-queued k x q = rw (append-nil (row (written k (error x))))
+error-queued k x q = rw (append-nil (row (written k (error x))))
+
+-- and charges as much
+pub errorFits-queued : (n : ℕ) (k : Kind) (x : Refusal) (q : Queue)
+    → fitsBehind n k x q ≡ queueFits n (inBytes .charge (inBytes .appended q (written k (error x) ∷ [])))
+unfolding fitsBehind fits queueFits rows
+errorFits-queued n k x q =
+    rw (
+      append-nil (row (written k (error x))),
+      length-append (q .queued) (row (written k (error x))),
+      add-zero (length (q .queued)),
+    )
 
 pub becomes-refused : {R : ℕ} {s s₁ q : Bytes} (x : Refusal) → HasOpen R s → Stripping R (set s 0 2) s₁
-    → Outcome (AtRest 0 q) (queuePart R s₁) q (Q.shut (kindNumbered (kindByte s)) x (queueOf (queuePart R s₁)))
+    → PuttingError (kindIn (kindByte s)) x (queuePart R s₁) q
     → Becomes R s (sets s₁ (4116 + R) q) (used (refused x (clientOf R s)))
 unfolding clientOf shutBy
 becomes-refused {R} {s} {s₁} {q} x h w bq =
     let n : 4132 + R ≤ length s = h .rules .sized in
     let h₁ = holds-stripped (holds-phase n (holds R s) 2) w in
-    let g : Outcome (AtRest 0 q) (queuePart R s) q (Q.shut (kindNumbered (kindByte s)) x (queueOf (queuePart R s))) =
-    rw (h₁ .queue) at bq in
+    let g : PuttingError (kindIn (kindByte s)) x (queuePart R s) q = rw (h₁ .queue) at bq in
     becomes (holds-queue n h₁ q (g .size))
     (record {
       sized = n;
@@ -262,7 +289,7 @@ becomes-refused {R} {s} {s₁} {q} x h w bq =
       kind = h .rules .kind;
       subscriptions = w .subscriptions;
       recording = w .recording;
-      queue = g .fine .in-step;
+      queue = g .fine .0 .in-step;
       no-patterns = λ _. w .bare .no-patterns;
       no-recording = λ _. w .bare .no-recording;
     })
@@ -270,5 +297,23 @@ becomes-refused {R} {s} {s₁} {q} x h w bq =
       w .bare .no-patterns,
       w .bare .no-recording,
       g .meaning,
-      shut-queued (kindNumbered (kindByte s)) x (queueOf (queuePart R s)),
+      error-queued (kindIn (kindByte s)) x (queueOf (queuePart R s)),
     ))
+
+pub becomes-slipped : {R : ℕ} {s v q : Bytes} (x : Refusal) → HasOpen R s
+    → errorFits (roomOf R s) x (clientOf R s) ≡ true
+    → recording.Becomes (afterSlip (clientOf R s .transaction)) (recordingPart R s) v
+    → PuttingError (kindIn (kindByte s)) x (queuePart R (sets s 4104 v)) q
+    → Becomes R s (sets (sets s 4104 v) (4116 + R) q) (used (slipped x (clientOf R s)))
+unfolding clientOf slipped withError withQueue withTransaction
+becomes-slipped {R} {s} {v} {q} x h f br bq =
+    let n : 4132 + R ≤ length s = h .rules .sized in
+    let l : length v ≡ 12 + R = br .size ∙ length-recordingPart R s (omega arith) in
+    let h₁ = holds-recording n (holds R s) v l in
+    let k : Kind = kindIn (kindByte s) in
+    let g : PuttingError k x (queuePart R s) q = rw (h₁ .queue) at bq in
+    let e : fitsBehind (room (queuePart R s)) k x (queueOf (queuePart R s)) ≡ true =
+    errorFits-queued (room (queuePart R s)) k x (queueOf (queuePart R s)) ∙ rw (room-queuePart R s) f in
+    becomes (holds-queue n h₁ q (g .size))
+    (open-with h (h .rules .subscriptions) (br .fine) (g .fine .1 e .in-step))
+    (rw (br .holds, g .meaning, error-queued k x (queueOf (queuePart R s))))

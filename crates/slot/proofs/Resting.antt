@@ -29,9 +29,9 @@ use Rattle.model.specs.Events.{onClient}
 use Rattle.slot.specs.Image.{ClientImage, SlotImage, refused, owed, notified, settledBy, settled}
 use Rattle.slot.specs.Region.{phaseOf, subscriptionsPart, queuePart, clientOf, slotOf}
 use Rattle.slot.specs.Region.{reserveOf, SlotRules}
-use Rattle.slot.specs.Contracts.{HasClient, HasResting, HasOpen, Becomes}
+use Rattle.slot.specs.Contracts.{HasClient, HasResting, HasOpen, HasOpenResting, Becomes}
 use Rattle.slot.proofs.Slots.{slotOf-used, slotOf-free}
-use Rattle.slot.proofs.Operations.{open-client}
+use Rattle.slot.proofs.Operations.{open-client, open-queue}
 
 -- ---- nothing is pending
 
@@ -51,6 +51,10 @@ resting-queue h = rest-pending (h .client .rules .queue) (h .none-pending)
 
 pub resting-queue-any : {R : ℕ} {s : Bytes} → HasResting R s → AtRest 0 (queuePart R s)
 resting-queue-any h = at-rest-less (omega arith) (resting-queue h)
+
+pub open-rest : {R : ℕ} {s : Bytes} → HasOpenResting R s → AtRest 64 (queuePart R s)
+unfolding clientOf
+open-rest h = rest-pending (open-queue (h .client)) (h .none-pending)
 
 -- ---- from the image
 

@@ -19,8 +19,8 @@ use Rattle.subscriptions.specs.Region.{subscriptionsFine, patternsOf}
 use Rattle.subscriptions.specs.Contracts as subscriptions
 use Rattle.model.specs.State.{off, free, used}
 use Rattle.slot.specs.Image.{ClientImage}
-use Rattle.slot.specs.Region.{phaseOf, kindByte, subscriptionsPart, recordingPart, queuePart, kindNumbered, clientOf, slotOf}
-use Rattle.slot.specs.Region.{reserveOf, ClientRules}
+use Rattle.slot.specs.Region.{phaseOf, kindByte, subscriptionsPart, recordingPart, queuePart, kindIn, hangsUpIn}
+use Rattle.slot.specs.Region.{clientOf, slotOf, reserveOf, ClientRules}
 use Rattle.slot.specs.Contracts.{HasClient, Becomes}
 
 -- ---- the parts of a slot
@@ -103,7 +103,8 @@ module _ {R : ℕ} {s : Bytes} {n f k : ℕ} {p r q : Bytes} (fits : 4132 + R �
 abbrev pub image : ℕ → ℕ → Bytes → Bytes → Bytes → ClientImage
 image f k p r q =
     record {
-      kind = kindNumbered k;
+      kind = kindIn k;
+      hangsUp = hangsUpIn k;
       shut = eqb f 2;
       patterns = patternsOf p;
       transaction = transactionOf r;
@@ -115,7 +116,7 @@ pub record Fine (R n f k : ℕ) (p r q : Bytes) : Type 0 where
   pub sized : 4132 + R ≤ n
   pub taken-up : f ≡ 0 → ⊥
   pub phase : f ≤ 2
-  pub kind : k ≤ 3
+  pub kind : k ≤ 7
   pub subscriptions : subscriptionsFine p ≡ true
   pub recording : recordingFine r ≡ true
   pub queue : InStep (reserveOf f) q
@@ -139,7 +140,7 @@ client-fine h =
     }
 
 -- the parts of an open client
-pub open-fine : {R n k : ℕ} {p r q : Bytes} → 4132 + R ≤ n → k ≤ 3 → subscriptionsFine p ≡ true
+pub open-fine : {R n k : ℕ} {p r q : Bytes} → 4132 + R ≤ n → k ≤ 7 → subscriptionsFine p ≡ true
     → recordingFine r ≡ true → InStep 64 q → Fine R n 1 k p r q
 open-fine l k s r q =
     record {

@@ -1,17 +1,18 @@
 -- The test of a slot is true just where its rules hold and nothing is pending.
 use mathlib.Core.Path.{_≡_, refl, sym, ap, _∙_}
 use mathlib.Core.List.{[], _∷_}
-use mathlib.Core.Bool.{Bool, true, false, cond, not, true≢false}
+use mathlib.Core.Bool.{Bool, true, false, cond, not}
 use Prim.Native.Nat.{ℕ, _+_, _≤_}
 use native.Mathlib.Omega.{arith}
 use lib.Dec.{eqb, leb}
 use lib.ListN.{length}
-use borrow.Author.Tests.{eq-eqb, ne-eqb, eqb-true, eqb-false, le-leb, leb-true}
+use borrow.Author.Tests.{eq-eqb, ne-eqb, eqb-true, eqb-false, le-leb, leb-true, not-true}
 use Rattle.octets.specs.Octets.{Bytes}
 use Rattle.model.specs.Patterns.{Patterns}
 use Rattle.queue.specs.Region.{AtRest, queueFine}
 use Rattle.queue.proofs.Regions.{fine-rest, rest-fine, pendingOf-rest}
-use Rattle.model.specs.State.{off, begun, Transaction, isBegun}
+use Rattle.model.specs.State.{Transaction, isOn}
+use Rattle.model.proofs.Transactions.{is-off}
 use Rattle.recording.specs.Region.{recordingFine}
 use Rattle.recording.proofs.Tests.{either, and-both, and-true-true}
 use Rattle.subscriptions.specs.Region.{subscriptionsFine}
@@ -57,24 +58,20 @@ empty-patterns : (ps : Patterns) → length ps ≡ 0 → ps ≡ []
 empty-patterns [] e = refl
 empty-patterns (p ∷ ps) e = absurd (omega arith)
 
-not-recording : (m : Transaction) → not (isBegun m) ≡ true → m ≡ off
-not-recording off e = refl
-not-recording (begun xs) e = absurd (true≢false (sym e))
-
 pub bare-test : {c : ClientImage} → isBare c ≡ true → Bare c
 unfolding isBare
 bare-test {c} e =
-    let a = and-both (eqb (length (c .patterns)) 0) (not (isBegun (c .transaction))) e in
+    let a = and-both (eqb (length (c .patterns)) 0) (not (isOn (c .transaction))) e in
     record {
       no-patterns = empty-patterns (c .patterns) (eqb-true (length (c .patterns)) 0 (a .0));
-      no-recording = not-recording (c .transaction) (a .1);
+      no-recording = is-off (c .transaction) (not-true (isOn (c .transaction)) (a .1));
     }
 
 pub test-bare : {c : ClientImage} → Bare c → isBare c ≡ true
 unfolding isBare
 test-bare {c} b =
     and-true-true (eq-eqb (length (c .patterns)) 0 (ap length (b .no-patterns)))
-    (ap (λ (m : Transaction). not (isBegun m)) (b .no-recording))
+    (ap (λ (m : Transaction). not (isOn m)) (b .no-recording))
 
 -- ---- a client
 
@@ -86,7 +83,7 @@ client-rest : {R : ℕ} {s : Bytes} → 4132 + R ≤ length s → clientFine R s
 unfolding clientFine
 client-rest {R} {s} h e =
     let a = and-both (leb (phaseOf s) 2) _ e in
-    let b = and-both (leb (kindByte s) 3) _ (a .1) in
+    let b = and-both (leb (kindByte s) 7) _ (a .1) in
     let d = and-both (regionsFine R s) (cond (eqb (phaseOf s) 2) (isBare (clientOf R s)) true) (b .1) in
     let r = regions-fine (d .0) in
     record {
@@ -94,7 +91,7 @@ client-rest {R} {s} h e =
           record {
             sized = h;
             phase = leb-true (phaseOf s) 2 (a .0);
-            kind = leb-true (kindByte s) 3 (b .0);
+            kind = leb-true (kindByte s) 7 (b .0);
             subscriptions = r .subscriptions;
             recording = r .recording;
             queue = r .queue .in-step;
@@ -107,7 +104,7 @@ rest-client : {R : ℕ} {s : Bytes} → Resting-client R s → clientFine R s �
 unfolding clientFine
 rest-client {R} {s} w =
     and-true-true (le-leb (phaseOf s) 2 (w .rules .phase))
-    (and-true-true (le-leb (kindByte s) 3 (w .rules .kind))
+    (and-true-true (le-leb (kindByte s) 7 (w .rules .kind))
     (and-true-true
     (fine-regions
     (record { subscriptions = w .rules .subscriptions; queue = w .rest; recording = w .rules .recording }))

@@ -8,7 +8,7 @@ use lib.Seq.{sets}
 use Rattle.octets.specs.Octets.{Bytes}
 use Rattle.protocol.specs.Terms.{Action, payload}
 use Rattle.model.specs.Patterns.{addPattern, removePattern}
-use Rattle.model.specs.State.{isBegun, actionsIn, recordingFits, free, used, withPatterns}
+use Rattle.model.specs.State.{actionsIn, recordingFits, free, used, withPatterns}
 use Rattle.queue.specs.Meaning.{kept}
 use Rattle.queue.specs.Rows.{firstLength, firstMessage}
 use Rattle.recording.specs.Encoding.{actionOf, actionFine}
@@ -37,6 +37,11 @@ pub record HasResting (R : ℕ) (s : Bytes) : Type 0 where
 pub record HasOpen (R : ℕ) (s : Bytes) : Type 0 where
   pub is-open : phaseOf s ≡ 1
   pub rules : ClientRules R s
+
+-- the slot has an open client, and nothing is owed to it
+pub record HasOpenResting (R : ℕ) (s : Bytes) : Type 0 where
+  pub client : HasOpen R s
+  pub none-pending : clientOf R s .queue .pending ≡ kept []
 
 -- the slot has an open client, for some record room
 pub record IsOpen (s : Bytes) : Type 0 where
@@ -104,10 +109,9 @@ pub record Taking (R : ℕ) (s out : Bytes) (n : ℕ) (s′ out′ : Bytes) : Ty
 pub record Fits (R : ℕ) (c : ClientImage) (n : ℕ) (b : Bool) : Type 0 where
   pub value : (a : Action) → length (payload a) ≡ n → b ≡ recordingFits R (actionsIn (c .transaction) ++ (a ∷ []))
 
--- an open client records, and the action with this ID and payload can be recorded
+-- the action with this ID and payload can be recorded of an open client
 pub record Recordable (R : ℕ) (s : Bytes) (id : ℕ) (p : Bytes) : Type 0 where
   pub client : HasOpen R s
-  pub on : isBegun (clientOf R s .transaction) ≡ true
   pub known : actionFine id (length p) ≡ true
   pub fits : recordingFits R (actionsIn (clientOf R s .transaction) ++ (actionOf id p ∷ [])) ≡ true
 

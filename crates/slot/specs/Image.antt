@@ -3,11 +3,11 @@
 use Prim.Native.Nat.{ℕ}
 use mathlib.Core.Path.{_≡_}
 use mathlib.Core.List.{List, [], _∷_, _++_}
-use mathlib.Core.Bool.{cond}
+use mathlib.Core.Bool.{Bool, cond}
 use mathlib.Core.Option.{some, none}
 use lib.ListN.{length, take}
 use Rattle.octets.specs.Octets.{Bytes}
-use Rattle.protocol.specs.Terms.{Action, Message}
+use Rattle.protocol.specs.Terms.{Action, Message, error}
 use Rattle.protocol.specs.declared.Refusal.{Refusal}
 use Rattle.protocol.specs.declared.Refusal.the-variants.{Room}
 use Rattle.message.specs.Forms.{written}
@@ -18,8 +18,8 @@ use Rattle.queue.specs.Meaning.{Pending, kept, overflown, Queue, queueWith, owi
 use Rattle.queue.specs.Rows.{rows, isEmpty, firstMessage}
 use Rattle.model.specs.Step.{subscribed}
 use Rattle.model.specs.Queueing.{Queueing}
-use Rattle.model.specs.State.{begun, actionsIn, ClientOf, SlotOf, used, withTransaction, withQueue}
-use Rattle.model.specs.Queue.{shutBy}
+use Rattle.model.specs.State.{begun, actionsIn, afterSlip, ClientOf, SlotOf, used, withTransaction, withQueue}
+use Rattle.model.specs.Queue.{queueFits, shutBy, withError}
 use Rattle.subscriptions.specs.Region.{matching}
 
 -- a queue as the memory holds it: the untaken messages as bytes, and what is pending. Messages behind it are queued at
@@ -48,6 +48,14 @@ recorded a c = withTransaction (begun (actionsIn (c .transaction) ++ (a ∷ []))
 -- shutting, as the simple server does it
 abbrev pub refused : Refusal → ClientImage → ClientImage
 refused r c = shutBy written r c
+
+-- whether the ERROR of a refusal fits beside what is queued to the client, whose queue has the room n
+abbrev pub errorFits : ℕ → Refusal → ClientImage → Bool
+errorFits n r c = queueFits n (inBytes .charge (inBytes .appended (c .queue) (written (c .kind) (error r) ∷ [])))
+
+-- a slip, as the simple server does it: the ERROR is queued, and a transaction is spoiled
+unfoldable pub slipped : Refusal → ClientImage → ClientImage
+slipped r c = withError written r (withTransaction (afterSlip (c .transaction)) c)
 
 -- one message more is owed to the client, whose queue has the room R
 unfoldable pub owed : ℕ → Message → ClientImage → ClientImage

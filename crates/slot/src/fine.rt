@@ -15,7 +15,7 @@ fn reserve(phase: u8) -> usize
     64
 }
 
-// Whether the client has no patterns and no recording.
+// Whether the client has no patterns and no transaction.
 fn is_bare(s: &[u8], r: usize) -> bool
     requires { ⌜ Regioned r (now s) ⌝ }
     ensures { λ b. ⌜ b ≡ isBare (clientOf r (now (s .entry))) ⌝ }
@@ -48,7 +48,7 @@ fn client_fine(s: &[u8], r: usize) -> bool
     if 2 < s[0] {
         return false;
     }
-    if 3 < s[1] {
+    if 7 < s[1] {
         return false;
     }
     if !regions_fine(s, r) {

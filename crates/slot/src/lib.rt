@@ -1,8 +1,8 @@
-// A slot of the memory: free, or with a client that is open or shut; its patterns, its recording and its
-// queue are regions of the slot. The crate's specs have the layout and its rules (Region), what a slot
-// means and what operations make of it (Image), and what functions ask and promise (Contracts).
-// Internal layer: `r` is the record room R everywhere, and what a function requires is its callers' to
-// show.
+// A slot of the memory: free, or with a client that is open or shut; its patterns, its recording
+// and its queue are regions of the slot. The crate's specs have the layout and its rules (Region),
+// what a slot means and what operations make of it (Image), and what functions ask and promise
+// (Contracts). Internal layer: `r` is the record room R everywhere, and what a function requires is
+// its callers' to show.
 mod client;
 mod fine;
 mod queueing;
@@ -13,23 +13,27 @@ pub use client::notify;
 pub use client::remove_pattern;
 pub use fine::is_fine;
 use protocol::Kind;
+pub use queueing::error_fits;
 pub use queueing::first_length;
 pub use queueing::has_message;
 pub use queueing::owe;
 pub use queueing::refuse;
 pub use queueing::settle;
+pub use queueing::slip;
 pub use queueing::take;
 pub use recordings::begin;
 pub use recordings::end_recording;
-pub use recordings::is_recording;
+pub use recordings::in_transaction;
+pub use recordings::is_spoiled;
 pub use recordings::record;
 pub use recordings::record_fits;
 ghost use mathlib.Core.Path.{_≡_};
 ghost use Prim.Native.Nat.{_+_, _≤_};
 ghost use lib.Dec.{eqb};
 ghost use lib.ListN.{length};
-ghost use Rattle.model.specs.State.{used, newClient, withKind};
+ghost use Rattle.model.specs.State.{openingWith, used, newClient, withKind};
 ghost use Rattle.slot.specs.Region.{phaseOf, kindByte, kindNumber, kindNumbered};
+ghost use Rattle.slot.specs.Region.{kindIn, hangsUpIn, byteFor};
 ghost use Rattle.slot.specs.Contracts.{Sized, Regions, Becomes, Stripping, Closing, Changing};
 
 // Whether the slot is free.
@@ -76,12 +80,30 @@ fn kind_number(kind: Kind) -> u8
     }
 }
 
+// The byte of a client's kind and form: the kind's number, and 4 more for a client of form 2.
+fn kind_byte(kind: Kind, hangs: bool) -> u8
+    ensures { λ n. ⌜ n ≡ byteFor kind hangs ⌝ }
+{
+    if hangs {
+        return 4 + kind_number(kind);
+    }
+    kind_number(kind)
+}
+
 // How the slot's client speaks.
 pub fn kind(s: &[u8]) -> Kind
     requires { ⌜ 2 ≤ length (now s) ⌝ }
-    ensures { λ k. ⌜ k ≡ kindNumbered (kindByte (now (s .entry))) ⌝ }
+    ensures { λ k. ⌜ k ≡ kindIn (kindByte (now (s .entry))) ⌝ }
 {
-    kind_numbered(s[1])
+    kind_numbered(s[1] % 4)
+}
+
+// Whether the slot's client was opened in form 2, in which every refusal shuts it.
+pub fn hangs_up(s: &[u8]) -> bool
+    requires { ⌜ 2 ≤ length (now s) ⌝ }
+    ensures { λ b. ⌜ b ≡ hangsUpIn (kindByte (now (s .entry))) ⌝ }
+{
+    4 <= s[1]
 }
 
 // Frees the slot.
@@ -101,21 +123,24 @@ fn strip(s: &mut [u8], r: usize)
     recording::clear(&mut s[4104..4116 + r]);
 }
 
-// Has a new client of this kind in the slot: open, with nothing of an earlier one.
-pub fn open(s: &mut [u8], r: usize, kind: Kind)
+// Has a new client of this kind in the slot, of form 2 where it `hangs` up: open, with nothing of
+// an earlier one.
+pub fn open(s: &mut [u8], r: usize, kind: Kind, hangs: bool)
     requires { ⌜ Sized r (now s) ⌝ }
-    ensures { λ _. ⌜ Becomes r (now (s .entry)) (now (s .exit)) (used (newClient kind)) ⌝ }
+    ensures { λ _. ⌜ Becomes r (now (s .entry)) (now (s .exit))
+        (used (newClient (openingWith kind hangs))) ⌝ }
 {
     s[0] = 1;
-    s[1] = kind_number(kind);
+    s[1] = kind_byte(kind, hangs);
     strip(s, r);
     queue::clear(&mut s[4116 + r..]);
 }
 
-// Gives the slot's client this kind. Of a slot without a client nothing is promised.
+// Gives the slot's client this kind, in the form that it was opened in. Of a slot without a client
+// nothing is promised.
 pub fn fix_kind(s: &mut [u8], kind: Kind)
     requires { ⌜ 2 ≤ length (now s) ⌝ }
     ensures { λ _. ⌜ Changing (withKind kind) (now (s .entry)) (now (s .exit)) ⌝ }
 {
-    s[1] = kind_number(kind);
+    s[1] = kind_byte(kind, hangs_up(&s[..]));
 }

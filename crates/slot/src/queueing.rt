@@ -2,16 +2,16 @@
 use message::Message;
 use protocol::Refusal;
 ghost use mathlib.Core.Path.{_≡_};
-ghost use mathlib.Core.Bool.{not};
+ghost use mathlib.Core.Bool.{true, not};
 ghost use Prim.Native.Nat.{_+_, _≤_};
 ghost use lib.ListN.{length};
 ghost use Rattle.message.specs.Writing.{said};
 ghost use Rattle.queue.specs.Rows.{isEmpty, firstLength};
 ghost use Rattle.model.specs.State.{used};
 ghost use Rattle.model.specs.Events.{onClient};
-ghost use Rattle.slot.specs.Image.{owed, refused, settled};
+ghost use Rattle.slot.specs.Image.{owed, refused, errorFits, slipped, settled};
 ghost use Rattle.slot.specs.Region.{SlotRules, clientOf, slotOf};
-ghost use Rattle.slot.specs.Contracts.{roomOf, HasResting, HasOpen, Becomes, Taking};
+ghost use Rattle.slot.specs.Contracts.{roomOf, HasResting, HasOpen, HasOpenResting, Becomes, Taking};
 
 // Whether the client has a message to take.
 pub fn has_message(s: &[u8], r: usize) -> bool
@@ -29,7 +29,8 @@ pub fn first_length(s: &[u8], r: usize) -> usize
     queue::first_length(&s[4116 + r..])
 }
 
-// Takes the client's first message: it goes to the front of out, which has room for it. Gives its length.
+// Takes the client's first message: it goes to the front of out, which has room for it. Gives its
+// length.
 pub fn take(s: &mut [u8], r: usize, out: &mut [u8]) -> usize
     requires { ⌜ (HasResting r (now s))
         × (firstLength (clientOf r (now s) .queue .queued) ≤ length (now out)) ⌝ }
@@ -49,7 +50,8 @@ pub fn owe(s: &mut [u8], r: usize, message: Message, body: &[u8])
     queue::owe(&mut s[4116 + r..], kind, message, body);
 }
 
-// Shuts the open client: its patterns, its recording and what is pending go, and the ERROR is queued.
+// Shuts the open client: its patterns, its recording and what is pending go, and the ERROR is
+// queued.
 pub fn refuse(s: &mut [u8], r: usize, refusal: Refusal)
     requires { ⌜ HasOpen r (now s) ⌝ }
     ensures { λ _. ⌜ Becomes r (now (s .entry)) (now (s .exit))
@@ -58,11 +60,32 @@ pub fn refuse(s: &mut [u8], r: usize, refusal: Refusal)
     let kind = crate::kind(&s[..]);
     s[0] = 2;
     crate::strip(s, r);
-    queue::shut_with(&mut s[4116 + r..], kind, refusal);
+    queue::put_error(&mut s[4116 + r..], kind, refusal);
 }
 
-// Ends a step for the open client: what it is owed is queued, or it is shut with 102 where that did not
-// fit.
+// Whether the ERROR of a refusal fits in the client's queue with 64 of its room kept back.
+pub fn error_fits(s: &[u8], r: usize, refusal: Refusal) -> bool
+    requires { ⌜ HasOpenResting r (now s) ⌝ }
+    ensures { λ b. ⌜ b ≡ errorFits (roomOf r (now (s .entry))) refusal (clientOf r (now (s .entry))) ⌝ }
+{
+    queue::error_fits(&s[4116 + r..], crate::kind(s), refusal)
+}
+
+// A slip: the open client stays open, its transaction, where it has one, is spoiled, and the ERROR,
+// which fits, is queued.
+pub fn slip(s: &mut [u8], r: usize, refusal: Refusal)
+    requires { ⌜ (HasOpenResting r (now s))
+        × (errorFits (roomOf r (now s)) refusal (clientOf r (now s)) ≡ true) ⌝ }
+    ensures { λ _. ⌜ Becomes r (now (s .entry)) (now (s .exit))
+        (used (slipped refusal (clientOf r (now (s .entry))))) ⌝ }
+{
+    let kind = crate::kind(&s[..]);
+    recording::spoil(&mut s[4104..4116 + r]);
+    queue::put_error(&mut s[4116 + r..], kind, refusal);
+}
+
+// Ends a step for the open client: what it is owed is queued, or it is shut with 102 where that did
+// not fit.
 fn settle_open(s: &mut [u8], r: usize)
     requires { ⌜ HasOpen r (now s) ⌝ }
     ensures { λ _. ⌜ Becomes r (now (s .entry)) (now (s .exit))
@@ -75,8 +98,8 @@ fn settle_open(s: &mut [u8], r: usize)
     queue::settle(&mut s[4116 + r..]);
 }
 
-// Ends a step: what an open client is owed is queued, or the client is shut with 102. A free slot and a
-// shut client stay as they are.
+// Ends a step: what an open client is owed is queued, or the client is shut with 102. A free slot
+// and a shut client stay as they are.
 pub fn settle(s: &mut [u8], r: usize)
     requires { ⌜ (1 ≤ length (now s)) × (SlotRules r (now s)) ⌝ }
     ensures { λ _. ⌜ Becomes r (now (s .entry)) (now (s .exit))

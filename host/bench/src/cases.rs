@@ -2,12 +2,14 @@
 //!
 //! In every state the slots 0 to 23 hold subscribers, each with patterns of its own that match no
 //! key, and slot 24 holds the client that is fed. All of them speak frames. Slots from 25 on are
-//! free.
+//! free, but for a client that speaks text in slot 25 of one case.
 
 use crate::sides::{Call, Due, State};
 
 /// The slot of the client that is fed.
 const FEEDER: usize = 24;
+/// The slot of the client that speaks text, in the case that has one.
+const TEXT: usize = 25;
 /// A slot that is free.
 const FREE: usize = 31;
 /// The subscribers.
@@ -132,6 +134,15 @@ fn takes() -> Vec<Due> {
     vec![(Call::Take(FEEDER), 0); 100]
 }
 
+/// A text client that makes typing errors, and those.
+fn slips(mut state: State) -> (State, Vec<Due>) {
+    state.open(TEXT, 1);
+    state.feed(TEXT, b"PING\n");
+    state.drain(TEXT);
+    let slip = Call::Feed(TEXT, b"NONSENSE\n".to_vec());
+    (state, vec![(slip, 100); 100])
+}
+
 /// PINGs that are each taken from a full queue, so that the queue's room is gone through.
 fn ping_and_take() -> Vec<Due> {
     let ping = Call::Feed(FEEDER, frame(7, &"f".repeat(200)));
@@ -220,6 +231,12 @@ pub fn cases() -> Vec<Case> {
             "COMMIT of 16 WRITEs to 1 subscriber",
             "Sixteen WRITEs of other values run as one step; the time of recording is not in it.",
             commits,
+        ),
+        case(
+            "refused text line that stays (100)",
+            "A line of an unknown word from a 26th client, who speaks text: its ERROR is queued, and \
+             the client stays open.",
+            |keys| slips(state(keys, 0)),
         ),
         case(
             "take, 100 messages queued",

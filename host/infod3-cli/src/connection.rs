@@ -182,7 +182,8 @@ impl Connection {
         Trouble::Lost(error.to_string())
     }
 
-    /// The next message; waits at most `timeout`, or without end. An ERROR is a trouble.
+    /// The next message; waits at most `timeout`, or without end. An ERROR is a trouble, behind
+    /// which more may come.
     pub fn receive(&mut self, timeout: Option<Duration>) -> Result<Message, Trouble> {
         let until = timeout.and_then(|timeout| Instant::now().checked_add(timeout));
         loop {

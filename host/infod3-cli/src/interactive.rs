@@ -56,17 +56,19 @@ struct Session<'a> {
 
 /// Sends the lines of standard input and shows messages until the input ends.
 pub fn run(options: &Options, output: &mut Output) -> Result<End, End> {
-    let connection = crate::connect(options)?;
+    let terminal = io::stdin().is_terminal();
+    let wire = options.line_wire(terminal);
+    let connection = crate::connect(options, wire)?;
     let stdin = io::stdin().as_fd().try_clone_to_owned();
     let stdin = stdin.map_err(|error| End::Usage(format!("standard input: {error}")))?;
     let mut session = Session {
         connection,
-        wire: options.wire,
+        wire,
         output,
         form: options.form.unwrap_or(Form::Text),
         timeout: options.timeout,
         stdin: stdin.into(),
-        terminal: io::stdin().is_terminal(),
+        terminal,
         input: Vec::new(),
         ended: false,
         unsent: Vec::new(),
@@ -172,6 +174,7 @@ impl Session<'_> {
                 Ok(Message::Pong(id)) if id == FIRST => {}
                 Ok(message) => self.output.write(&show::message(self.form, &message))?,
                 Err(Trouble::Late) => return Ok(true),
+                Err(trouble) if self.goes_on_after(&trouble) => self.tell(&trouble),
                 Err(Trouble::Lost(_)) if self.parted && self.connection.has_ended() => {
                     return Ok(false)
                 }
@@ -180,6 +183,21 @@ impl Session<'_> {
         }
         self.more = true;
         Ok(true)
+    }
+
+    /// Whether somebody types and the server keeps the connection: a text client stays after each
+    /// ERROR but 102.
+    fn goes_on_after(&self, trouble: &Trouble) -> bool {
+        let stays = matches!(trouble, Trouble::Error(100 | 101 | 103, _));
+        stays && self.terminal && self.wire == Wire::Text
+    }
+
+    /// Tells who types of an ERROR, and what has become of the transaction.
+    fn tell(&self, error: &Trouble) {
+        say(error);
+        if self.open {
+            say("the transaction is spoiled: commit ends it, and none of it is done");
+        }
     }
 
     /// Reads some input and takes its whole lines; at its end the rest is a line too.
@@ -241,8 +259,11 @@ impl Session<'_> {
         self.unsent.extend(ping.unwrap_or_default());
     }
 
-    /// Queues a command, unless it is refused; the error is one line.
+    /// Queues a command, unless every server refuses it; the error is one line.
     fn queue(&mut self, command: Command<'_>) -> Result<(), String> {
+        if self.open && command == Command::Begin {
+            return Err("a transaction is open already; commit ends it".to_owned());
+        }
         let bytes = written(self.wire, &[command]).map_err(|trouble| trouble.to_string())?;
         self.unsent.extend(bytes);
         match command {

@@ -101,7 +101,7 @@ fn perform(options: &Options, output: &mut Output) -> Result<End, End> {
         Task::WriteInput(key) => change(options, Command::Write(key, &input()?)),
         Task::Watch(patterns) => Watch::new(options, patterns, output)?.run(),
         Task::Ping => {
-            connect(options)?.synchronise(options.timeout)?;
+            connect(options, options.command_wire())?.synchronise(options.timeout)?;
             output.write(b"pong\n")?;
             Ok(End::Done)
         }
@@ -125,13 +125,14 @@ fn print(command: Command<'_>, output: &mut Output) -> Result<End, End> {
     Ok(End::Done)
 }
 
-fn connect(options: &Options) -> Result<Connection, Trouble> {
-    Connection::open_in(options.wire, &options.address, options.timeout)
+fn connect(options: &Options, wire: Wire) -> Result<Connection, Trouble> {
+    Connection::open_in(wire, &options.address, options.timeout)
 }
 
 fn read(options: &Options, key: &[u8], output: &mut Output) -> Result<End, End> {
-    let command = written(options.wire, &[Command::Read(key)])?;
-    let mut connection = connect(options)?;
+    let wire = options.command_wire();
+    let command = written(wire, &[Command::Read(key)])?;
+    let mut connection = connect(options, wire)?;
     connection.send_bytes(&command)?;
     match connection.receive(Some(options.timeout))? {
         Message::Info {
@@ -153,8 +154,9 @@ fn read(options: &Options, key: &[u8], output: &mut Output) -> Result<End, End> 
 /// Sends a command that has no answer, and waits until it is done. One that is refused is not
 /// worth a connection.
 fn change(options: &Options, command: Command<'_>) -> Result<End, End> {
-    let command = written(options.wire, &[command])?;
-    let mut connection = connect(options)?;
+    let wire = options.command_wire();
+    let command = written(wire, &[command])?;
+    let mut connection = connect(options, wire)?;
     connection.send_bytes(&command)?;
     connection.synchronise(options.timeout)?;
     Ok(End::Done)

@@ -15,8 +15,8 @@ const LARGEST: u64 = 1_000_000_000;
 pub struct Options {
     /// Where the server is.
     pub address: Address,
-    /// How commands and messages go to the server and back.
-    pub wire: Wire,
+    /// How commands and messages go to the server and back, if it is said.
+    pub wire: Option<Wire>,
     /// How keys and values are shown, if it is said.
     pub form: Option<Form>,
     /// The number of lines after which watching ends.
@@ -55,7 +55,7 @@ pub fn parse(
     let server = server.filter(|server| !server.is_empty());
     let mut options = Options {
         address: Address::read(server.as_deref().unwrap_or(OsStr::new("127.0.0.1:7070"))),
-        wire: Wire::Framed,
+        wire: None,
         form: None,
         count: None,
         timeout: Duration::from_secs(10),
@@ -148,6 +148,19 @@ impl<I: Iterator<Item = OsString>> Given<'_, I> {
 }
 
 impl Options {
+    /// How one command, or what is watched, goes over the wire.
+    pub fn command_wire(&self) -> Wire {
+        self.wire.unwrap_or(Wire::Framed)
+    }
+
+    /// How lines go over the wire. A server keeps a text client that makes a typing error, so lines
+    /// from a terminal are text. Behind a line of a script that is refused nothing more is to be
+    /// done, and a server shuts a framed client.
+    pub fn line_wire(&self, terminal: bool) -> Wire {
+        let usual = if terminal { Wire::Text } else { Wire::Framed };
+        self.wire.unwrap_or(usual)
+    }
+
     /// Takes one option in; a request where it asks for something else than to run.
     fn take<I>(&mut self, given: Given<'_, I>) -> Result<Option<Request>, String>
     where
@@ -159,7 +172,7 @@ impl Options {
             "--man" => return given.alone().map(|()| Some(Request::Man)),
             "--tcp" => self.address = Address::Tcp(given.value()?.to_string_lossy().into_owned()),
             "--unix" => self.address = Address::Unix(given.value()?.into()),
-            "--wire" => self.wire = given.wire()?,
+            "--wire" => self.wire = Some(given.wire()?),
             "--text" => self.show_as(Form::Text, given)?,
             "--raw" => self.show_as(Form::Raw, given)?,
             "--json" => self.show_as(Form::Json, given)?,
@@ -235,12 +248,16 @@ mod tests {
             Address::Unix("a=b".into())
         );
         for (line, wire) in [
-            ("ping", Wire::Framed),
-            ("--wire framed ping", Wire::Framed),
-            ("--wire=text ping", Wire::Text),
-            ("ping --wire text", Wire::Text),
+            ("ping", None),
+            ("--wire framed ping", Some(Wire::Framed)),
+            ("--wire=text ping", Some(Wire::Text)),
+            ("ping --wire text", Some(Wire::Text)),
         ] {
-            assert_eq!(options(line).wire, wire, "{line}");
+            let found = options(line);
+            assert_eq!(found.wire, wire, "{line}");
+            assert_eq!(found.command_wire(), wire.unwrap_or(Wire::Framed));
+            assert_eq!(found.line_wire(false), wire.unwrap_or(Wire::Framed));
+            assert_eq!(found.line_wire(true), wire.unwrap_or(Wire::Text));
         }
         assert!(options("line write --stdin k").stdin);
     }

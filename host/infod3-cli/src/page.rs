@@ -38,11 +38,13 @@ pub const PAGE: Page = Page {
                  unsub, begin, commit, ping or one of their first letters, and hello [VERSION \
                  [TEXT]], help, quit. Fields are apart by spaces; one with spaces in it is quoted, with \\ooo \
                  for a byte in octal. Messages are shown as they come, keys and values in quotes. A \
-                 line that is wrong is said and not sent; unless the lines come from a terminal, the \
-                 status at the end is then 2. \
+                 line that is wrong, such as a begin inside a transaction, is said and not sent; unless \
+                 the lines come from a terminal, the status at the end is then 2. \
                  A transaction that is open at the end is not committed: that is said, with the same \
                  status. Inside a transaction a wrong line ends the program so, unless it comes from \
-                 a terminal.",
+                 a terminal. An ERROR of the server ends the program with status 4; at a terminal an \
+                 ERROR other than 102 is said, and the lines go on with all patterns, unless --wire \
+                 framed is given.",
             )],
         ),
         Part::new(
@@ -69,8 +71,8 @@ pub const PAGE: Page = Page {
                 (
                     "--wire framed|text",
                     "speaks with the server in binary frames or in text lines, which other tools can \
-                     show and relays of lines pass on; framed if not given. What is printed is the \
-                     same",
+                     show and relays of lines pass on; if not given, text for lines from a terminal \
+                     and framed for all else. What is printed is the same",
                 ),
                 ("--timeout SECONDS", "how long connecting, sending and each answer may take; 10 if not given"),
                 ("--text", "shows keys and values in quotes always"),

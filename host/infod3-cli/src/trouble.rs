@@ -1,16 +1,17 @@
-//! Why a connection does not go on.
+//! Why a connection does not go on, or a command is not sent.
 
 use crate::quote::{field, harmless};
 use infod3::client::{CodecError, Command};
 use infod3::Refusal;
 use std::fmt;
 
-/// Why a connection does not go on.
+/// Why a connection does not go on, or a command is not sent.
 #[derive(Clone, Debug, PartialEq, Eq)]
 pub enum Trouble {
     /// The server cannot be reached, or has no free slot.
     Connect(String),
-    /// The server sent ERROR.
+    /// The server sent ERROR. It closes behind 102, and behind every ERROR where the wire is framed
+    /// or the listener hangs up; else a client may go on.
     Error(u8, Vec<u8>),
     /// The server takes no WRITE at this listener.
     ReadOnly,

@@ -55,7 +55,7 @@ impl<'a> Watch<'a> {
         commands.push(Command::Ping(SUBSCRIBED));
         Ok(Watch {
             options,
-            subscription: written(options.wire, &commands)?,
+            subscription: written(options.command_wire(), &commands)?,
             output,
             form: options.form.unwrap_or(Form::Fields),
             left: options.count,
@@ -128,7 +128,7 @@ impl<'a> Watch<'a> {
     /// deleted before.
     fn connection(&mut self) -> Result<End, End> {
         self.informed = false;
-        let mut connection = crate::connect(self.options)?;
+        let mut connection = crate::connect(self.options, self.options.command_wire())?;
         connection.send_bytes(&self.subscription)?;
         let mut missing = Some(self.present.clone());
         while self.left != Some(0) {
@@ -162,7 +162,8 @@ impl<'a> Watch<'a> {
         let keepalive = self.options.keepalive.unwrap_or(KEEPALIVE);
         match self.receive_within(connection, keepalive) {
             Err(End::Trouble(Trouble::Late)) => {
-                let ping = written(self.options.wire, &[Command::Ping(b"alive")])?;
+                let wire = self.options.command_wire();
+                let ping = written(wire, &[Command::Ping(b"alive")])?;
                 // Where the server has closed, what it sent before is still to be received.
                 let _ = connection.send_some(&ping);
                 self.receive_within(connection, timeout)

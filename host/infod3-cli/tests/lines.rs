@@ -18,11 +18,9 @@ fn lines() {
         let output = "\"k\" \"x\\012y\"\npong \"p\"\n\"k\" \"2\"\n\"k\"\n";
         assert_eq!(server.run(&[], input), done(output));
         assert_eq!(server.run(&[], b"ping\nquit\nping\n"), done("pong \"\"\n"));
-        let (status, _, errors) = server.run(&[], b"begin\nbegin\n");
-        assert_eq!(
-            (status, errors.as_str()),
-            (4, "infod3: ERROR 103 bad state\n")
-        );
+        let (status, output, errors) = server.run(&[], SEVENTEEN.as_bytes());
+        assert_eq!((status, output.as_str()), (4, "pong \"\"\n"));
+        assert_eq!(errors, "infod3: ERROR 102 no room\n");
         let hello = server.run(&[], b"hello\nhello 7 \"me\\012\"\n");
         assert_eq!(hello, done("version 0 \"\"\nversion 0 \"\"\n"));
         let many = "w k 1\nr k\n".repeat(20_000);
@@ -52,6 +50,10 @@ fn a_wrong_line_says_what_is_missing() {
         assert_eq!(errors.lines().collect::<Vec<_>>(), expected);
     }
 }
+
+/// A ping, and a pattern too many.
+const SEVENTEEN: &str = "ping\nsub 1\nsub 2\nsub 3\nsub 4\nsub 5\nsub 6\nsub 7\nsub 8\nsub 9\n\
+                         sub a\nsub b\nsub c\nsub d\nsub e\nsub f\nsub g\nsub h\n";
 
 /// The end of a program whose lines leave a transaction open.
 fn uncommitted(output: &str) -> Ended {
@@ -87,6 +89,10 @@ fn a_wrong_line_in_a_transaction_ends_it() {
             ("write l", "infod3: write wants a VALUE\n"),
             (&long, "infod3: "),
             ("sub **", "infod3: ** is no PATTERN, "),
+            (
+                "begin",
+                "infod3: a transaction is open already; commit ends it\n",
+            ),
             (&endless, "infod3: a line has more than 524288 bytes\n"),
         ] {
             let input = format!("begin\nwrite k 2\n{wrong}\ncommit\nwrite k 3\n");
@@ -161,9 +167,9 @@ fn a_refused_command_shows_at_once() {
         let mut child = server.spawn(&[]);
         let mut input = child.stdin.take().expect("its input");
         let mut session = Lines::of(child);
-        input.write_all(b"ping\nbegin\nbegin\n").expect("written");
+        input.write_all(SEVENTEEN.as_bytes()).expect("written");
         assert_eq!(session.output(), "pong \"\"");
-        assert_eq!(session.error(), "infod3: ERROR 103 bad state");
+        assert_eq!(session.error(), "infod3: ERROR 102 no room");
         assert_eq!(session.status(), 4);
         drop(input);
     }

@@ -3,8 +3,9 @@
 use crate::raw::Reply;
 use std::fmt;
 
-/// Why a message was refused. The client that sent it is shut, and the text that `Display` writes
-/// is the text of its ERROR.
+/// Why a message was refused. The text that `Display` writes is the text of the ERROR that its
+/// client gets. [`Refusal::Room`] shuts the client; so do the others, but for a text client that
+/// was opened as [`Form::Stream`](crate::Form::Stream), which stays open.
 ///
 /// ```
 /// use infod3::Refusal;
@@ -19,9 +20,11 @@ pub enum Refusal {
     Message,
     /// 101: bad parameter, an invalid pattern among them.
     Parameter,
-    /// 102: no room, in the message's own lengths, the store, the patterns or the recording.
+    /// 102: no room, in the message's own lengths, the store, the patterns or the recording, or in
+    /// the queue for the ERROR of a client that would have stayed open.
     Room,
-    /// 103: bad command state, which is a BEGIN while recording.
+    /// 103: bad command state, which is a BEGIN in a transaction, or the COMMIT of a transaction
+    /// that a refused message has spoiled.
     State,
 }
 
@@ -79,7 +82,8 @@ pub enum Feed {
     Done(usize),
     /// 1: the input holds no whole message yet. Nothing is consumed and nothing altered.
     More,
-    /// 100 to 103: the first message, of so many bytes, was refused, and the client is shut.
+    /// 100 to 103: the first message, of so many bytes, was refused. The client is shut, unless it
+    /// is one that stays open after this [`Refusal`].
     Refused(Refusal, usize),
 }
 
@@ -135,7 +139,7 @@ pub enum Error {
     TooShort,
     /// 7: the memory breaks a rule of its layout.
     Damaged,
-    /// 8: a size of a set up is out of range, or a form is neither 0 nor 1.
+    /// 8: a size of a set up is out of range, or a form is above 2.
     OutOfRange,
     /// A number, or a count, that the call cannot give by the rules paper.
     Unexpected(u32),

@@ -9,8 +9,11 @@ use crate::sizes::Sizes;
 pub enum Form {
     /// 0: each feed is one message, an ID and a payload.
     Packets,
-    /// 1: a stream of framed messages or of text lines, by the first byte of the first message.
+    /// 1: a stream of framed messages or of text lines, by the first byte of the first message. A
+    /// text client stays open after a typing error (100, 101 and 103).
     Stream,
+    /// 2: such a stream whose client every refusal shuts, a text client too.
+    StreamHangUp,
 }
 
 impl Form {
@@ -19,6 +22,7 @@ impl Form {
         match self {
             Form::Packets => 0,
             Form::Stream => 1,
+            Form::StreamHangUp => 2,
         }
     }
 }
@@ -142,7 +146,22 @@ impl<M: AsRef<[u8]> + AsMut<[u8]>> Broker<M> {
     /// Feeds a client its input, of which the first whole message is taken and no more.
     ///
     /// Errors: [`Error::Damaged`]; [`Error::NoClient`]; [`Error::Shut`]. A message that is refused
-    /// is no error but [`Feed::Refused`].
+    /// is no error but [`Feed::Refused`]. A text client of [`Form::Stream`] that is refused stays
+    /// open, but for [`Refusal::Room`](crate::Refusal::Room); a transaction that it is in is
+    /// spoiled: its commands do nothing, and its COMMIT is refused and ends it.
+    ///
+    /// ```
+    /// use infod3::{Broker, Feed, Form, Refusal, Sizes};
+    ///
+    /// let mut broker = Broker::new(Sizes::SMALLEST)?;
+    /// broker.open(0, Form::Stream)?;
+    /// assert_eq!(broker.feed(0, b"BEGIN\n")?, Feed::Done(6));
+    /// assert_eq!(broker.feed(0, b"WRIET k v\n")?, Feed::Refused(Refusal::Message, 10));
+    /// assert_eq!(broker.feed(0, b"WRITE k v\n")?, Feed::Done(10));
+    /// assert_eq!(broker.feed(0, b"COMMIT\n")?, Feed::Refused(Refusal::State, 7));
+    /// assert_eq!(broker.feed(0, b"COMMIT\n")?, Feed::Done(7));
+    /// # Ok::<(), infod3::Error>(())
+    /// ```
     pub fn feed(&mut self, slot: usize, input: &[u8]) -> Result<Feed, Error> {
         fed(raw::feed(self.memory.as_mut(), slot, input), input.len())
     }
@@ -315,8 +334,9 @@ mod tests {
     }
 
     #[test]
-    fn a_refused_message_shuts_its_client() {
-        let mut broker = two_text_clients();
+    fn a_refused_message_shuts_a_client_that_hangs_up() {
+        let mut broker = Broker::new(Sizes::SMALLEST).unwrap();
+        broker.open(0, Form::StreamHangUp).unwrap();
         let refused = broker.feed(0, b"SUB **\n").unwrap();
         assert_eq!(refused, Feed::Refused(Refusal::Parameter, 7));
         assert_eq!(broker.feed(0, b"PING\n"), Err(Error::Shut));
@@ -325,6 +345,54 @@ mod tests {
         assert_eq!(broker.take_message(0), Ok(None));
         assert_eq!(broker.close(0), Ok(()));
         assert_eq!(broker.close(0), Err(Error::NoClient));
+    }
+
+    #[test]
+    fn a_text_client_of_a_stream_stays_open_after_a_typing_error() {
+        let mut broker = two_text_clients();
+        assert_eq!(broker.feed(0, b"SUB *\n"), Ok(Feed::Done(6)));
+        let refused = broker.feed(0, b"SUB **\n");
+        assert_eq!(refused, Ok(Feed::Refused(Refusal::Parameter, 7)));
+        assert_eq!(broker.feed(1, b"WRITE k v\n"), Ok(Feed::Done(10)));
+        let mut text = Vec::new();
+        while broker.append_message(0, &mut text).unwrap().is_some() {}
+        let expected = "ERROR 101 \"bad parameter\"\r\nINFO \"k\" \"v\"\r\n";
+        assert_eq!(text, expected.as_bytes());
+        // The line is too long for a pattern, and 102 shuts everyone.
+        let long = format!("SUB {}\n", "a".repeat(256));
+        let refused = broker.feed(0, long.as_bytes());
+        assert_eq!(refused, Ok(Feed::Refused(Refusal::Room, 261)));
+        assert_eq!(broker.feed(0, b"PING\n"), Err(Error::Shut));
+    }
+
+    #[test]
+    fn a_slip_without_room_for_its_error_is_refused_with_102() {
+        let mut broker = two_text_clients();
+        // A PONG of n bytes charges n + 13 of 960; the ERROR would charge 33.
+        let ping = format!("PING {}\n", "x".repeat(928 - 13));
+        assert_eq!(broker.feed(0, ping.as_bytes()), Ok(Feed::Done(ping.len())));
+        let refused = broker.feed(0, b"XX\n");
+        assert_eq!(refused, Ok(Feed::Refused(Refusal::Room, 3)));
+        assert_eq!(broker.feed(0, b"PING\n"), Err(Error::Shut));
+    }
+
+    #[test]
+    fn binary_clients_are_shut_in_every_form() {
+        for form in [Form::Packets, Form::Stream, Form::StreamHangUp] {
+            let mut broker = Broker::new(Sizes::SMALLEST).unwrap();
+            broker.open(0, form).unwrap();
+            let refused = broker.feed(0, b"\x08\0\0").unwrap();
+            assert_eq!(refused, Feed::Refused(Refusal::Message, 3));
+            assert_eq!(broker.feed(0, b"\x07\0\0"), Err(Error::Shut));
+        }
+    }
+
+    #[test]
+    fn forms_have_their_numbers() {
+        let forms = [Form::Packets, Form::Stream, Form::StreamHangUp];
+        assert_eq!(forms.map(Form::number), [0, 1, 2]);
+        let mut memory = Broker::new(Sizes::SMALLEST).unwrap().into_memory();
+        assert_eq!(raw::open(&mut memory, 0, 3).answer, 8);
     }
 
     #[test]

@@ -35,33 +35,47 @@
 //! A feed takes the first whole message of the bytes it gets, and no more. A host that reads from
 //! a stream keeps the bytes that are not consumed and feeds them again: first while the answer is
 //! [`Feed::Done`], then, after [`Feed::More`], with what arrives next. A refused message
-//! ([`Feed::Refused`]) shuts the client: an ERROR is the last message of its queue, and all that
-//! is left to do is to take what is queued and close the slot.
+//! ([`Feed::Refused`]) is answered with an ERROR. A text client that was opened as
+//! [`Form::Stream`] stays open after a typing error, with its patterns, and is fed on. Every other
+//! refusal shuts its client: the ERROR is the last message of its queue, every further feed is
+//! [`Error::Shut`], and all that is left to do is to take what is queued and close the slot.
 //!
 //! ```
 //! use infod3::{Broker, Error, Feed, Form, Refusal, Sizes};
 //!
-//! let mut broker = Broker::new(Sizes::new(1, 256, 1024, 256)?)?;
-//! broker.open(0, Form::Stream)?;
-//! let mut pending: &[u8] = b"PING a\nWRITE k v\nREAD k\nNONSENSE\nPING b\n";
-//! let refused = loop {
-//!     match broker.feed(0, pending)? {
-//!         Feed::Done(n) => pending = &pending[n..],
-//!         Feed::More => break None,
-//!         Feed::Refused(refusal, _) => break Some(refusal),
+//! /// Feeds all of it; gives the refusals, and whether the client is shut.
+//! fn feed_all(broker: &mut Broker<Vec<u8>>, mut pending: &[u8]) -> (Vec<Refusal>, bool) {
+//!     let mut refused = Vec::new();
+//!     loop {
+//!         match broker.feed(0, pending) {
+//!             Ok(Feed::Done(n)) => pending = &pending[n..],
+//!             Ok(Feed::Refused(refusal, n)) => {
+//!                 refused.push(refusal);
+//!                 pending = &pending[n..];
+//!             }
+//!             Ok(Feed::More) => return (refused, false),
+//!             Err(error) => return (refused, error == Error::Shut),
+//!         }
 //!     }
-//! };
-//! assert_eq!(refused, Some(Refusal::Message));
-//! assert_eq!(broker.feed(0, b"PING c\n"), Err(Error::Shut));
+//! }
 //!
+//! let mut broker = Broker::new(Sizes::new(1, 256, 1024, 256)?)?;
+//! let input = b"PING a\nNONSENSE\nPING b\n";
+//! broker.open(0, Form::Stream)?;
+//! assert_eq!(feed_all(&mut broker, input), (vec![Refusal::Message], false));
 //! let mut text = Vec::new();
 //! while broker.append_message(0, &mut text)?.is_some() {}
 //! let expected = concat!(
 //!     "PONG \"a\"\r\n",
-//!     "INFO \"k\" \"v\"\r\n",
 //!     "ERROR 100 \"unknown message\"\r\n",
+//!     "PONG \"b\"\r\n",
 //! );
 //! assert_eq!(text, expected.as_bytes());
+//!
+//! // A client of this form is shut by every refusal.
+//! broker.close(0)?;
+//! broker.open(0, Form::StreamHangUp)?;
+//! assert_eq!(feed_all(&mut broker, input), (vec![Refusal::Message], true));
 //! # Ok::<(), Box<dyn std::error::Error>>(())
 //! ```
 //!

@@ -114,7 +114,8 @@ pub fn set_up(mem: &mut [u8], n: usize, s: usize, q: usize, r: usize) -> Reply {
     unsafe { infod3_set_up(mem.as_mut_ptr(), mem.len(), n, s, q, r) }
 }
 
-/// Opens a client in a free slot, in form 0 (packets) or 1 (stream). Answers 7, 2, 8, 4.
+/// Opens a client in a free slot, in form 0 (packets), 1 (stream) or 2 (a stream whose client
+/// every refusal shuts). Answers 7, 2, 8, 4.
 pub fn open(mem: &mut [u8], slot: usize, form: usize) -> Reply {
     // SAFETY: as for `set_up`; slot and form may be any numbers.
     unsafe { infod3_open(mem.as_mut_ptr(), mem.len(), slot, form) }

@@ -149,6 +149,19 @@ mod tests {
         }
     }
 
+    #[test]
+    fn a_client_that_stays_open_after_a_refusal_is_not_shut() {
+        for (form, shut) in [(Form::Stream, false), (Form::StreamHangUp, true)] {
+            let mut broker = broker(1, 256, 1024, 256);
+            let view = View::of(&mut broker).unwrap().unwrap();
+            broker.open(0, form).unwrap();
+            assert_eq!(broker.feed(0, b"XX\n").map(Feed::number), Ok(100));
+            // The ERROR is a line of 29 bytes.
+            let seen = view.seen(broker.memory(), 0);
+            assert_eq!(seen, (Some(0), Some(33), Some(shut)), "{form:?}");
+        }
+    }
+
     /// Offsets that are not those of the memory are found out, each by itself.
     #[test]
     fn a_view_of_another_layout_does_not_agree() {

@@ -1,6 +1,10 @@
-//! A client with a slot: its socket, its two buffers and how far it is on its way out.
+//! A client with a slot: its socket, its two buffers and how far it is on its way out. What is known
+//! of the messages that it was fed is in `transaction`.
 
-use crate::command::{is_blank, Command};
+mod transaction;
+
+pub use transaction::Recorded;
+
 use crate::cut::{Input, Kind};
 use crate::known::Known;
 use crate::options::{Access, Limits, ListenerOptions};
@@ -17,6 +21,9 @@ use std::time::{Duration, Instant};
 const PACKETS_PER_TURN: usize = 8;
 /// Bytes of a stream that are read in one turn.
 const READ: usize = 65_536;
+/// How long the log is silent about a client's typing errors after a line about one: all clients
+/// together have fewer such lines than there may be about clients in a second.
+const SILENCE: Duration = Duration::from_secs(1);
 /// How often the socket of a client that is to be closed is tried.
 const RETRY: Duration = Duration::from_millis(50);
 
@@ -27,7 +34,7 @@ pub enum Reason {
     Ended,
     /// Its socket failed.
     Lost(String),
-    /// A message of it was refused.
+    /// A message of it was refused, and it was shut for that.
     Refused(Refusal),
     /// Its queue overflowed.
     Overflow,
@@ -54,15 +61,6 @@ impl fmt::Display for Reason {
             Reason::Stop => f.write_str("server stops"),
         }
     }
-}
-
-/// A transaction that is open.
-#[derive(Clone, Copy, Debug, Default, PartialEq, Eq)]
-pub struct Recorded {
-    /// The most bytes that its WRITEs may owe another client.
-    pub owed: usize,
-    /// The number of its commands.
-    pub commands: usize,
 }
 
 /// A client.
@@ -102,7 +100,8 @@ pub struct Client {
     pub dropped: usize,
     /// Nothing more is fed; it is closed for this reason when its output is written.
     pub leaving: Option<Reason>,
-    /// Nothing more is taken for it: its ERROR was, or it is closed without one.
+    /// Nothing more is taken for it: it is leaving and its queue was found empty, or the server
+    /// itself has said the last line.
     pub drained: bool,
     /// When its socket last took a byte or stopped to, or when it began to leave.
     pub progress: Instant,
@@ -114,6 +113,10 @@ pub struct Client {
     pub talk: Option<Vec<u8>>,
     /// What need not be fed again, once it is gone.
     pub known: Known,
+    /// Its typing errors: messages that were refused and left it open.
+    pub slips: u64,
+    /// Until then the log does not tell of them.
+    quiet_until: Instant,
 }
 
 impl Client {
@@ -147,6 +150,8 @@ impl Client {
             recorded: None,
             talk: None,
             known: Known::default(),
+            slips: 0,
+            quiet_until: now,
         }
     }
 
@@ -300,68 +305,13 @@ impl Client {
         self.can_take() || self.can_be_fed()
     }
 
-    /// The most bytes that this message can owe another client when it is fed. What is recorded
-    /// counts when it is run.
-    pub fn may_owe(&mut self, command: Command, len: usize) -> usize {
-        let owed = || info_length(self.input.front(len));
-        match (command, self.recorded) {
-            (Command::Write, None) => owed(),
-            (Command::Commit, Some(recorded)) => recorded.owed,
-            _ => 0,
+    /// Whether the log is to tell of a typing error now.
+    pub fn is_slip_told(&mut self, now: Instant) -> bool {
+        let told = self.quiet_until <= now;
+        if told {
+            self.quiet_until = now + SILENCE;
         }
-    }
-
-    /// Notes that the first message, of `len` bytes, was accepted in this state of the store: where
-    /// a transaction begins and ends, and what need not be fed again. True where the store may have
-    /// changed.
-    pub fn note_accepted(&mut self, command: Command, len: usize, state: u64) -> bool {
-        let Some(recorded) = &mut self.recorded else {
-            if command == Command::Begin {
-                self.recorded = Some(Recorded::default());
-                if self.gone {
-                    self.talk = self.input.transaction(self.kind).map(|(text, _)| text);
-                }
-            } else if self.gone {
-                self.known.note(command, self.input.front(len), state);
-            }
-            return command == Command::Write;
-        };
-        match command {
-            Command::Commit => {
-                let changes = recorded.owed > 0;
-                self.recorded = None;
-                self.known.note_transaction(self.talk.take(), state);
-                return changes;
-            }
-            Command::Write => recorded.owed += info_length(self.input.front(len)),
-            Command::Help | Command::Other => return false,
-            _ => {}
-        }
-        recorded.commands += 1;
-        false
-    }
-
-    /// Removes the first message, of `len` bytes, where it need not be fed: a line that means
-    /// nothing, or of a client whose peer is gone what would only bring answers. False where it has
-    /// to be fed.
-    pub fn passes_over(&mut self, len: usize, state: u64) -> bool {
-        let message = self.input.front(len);
-        let means_nothing = self.has_spoken && is_blank(self.kind, message);
-        let alone = self.gone && self.recorded.is_none();
-        if means_nothing || (alone && self.known.holds(message, state)) {
-            self.input.remove(len);
-            return true;
-        }
-        if !alone || Command::of(self.kind, message) != Command::Begin {
-            return false;
-        }
-        let talk = self.input.transaction(self.kind);
-        let known = talk.filter(|(text, _)| self.known.holds_transaction(text, state));
-        let Some((_, lengths)) = known else {
-            return false;
-        };
-        lengths.into_iter().for_each(|len| self.input.remove(len));
-        true
+        told
     }
 
     /// Whether it has to be closed now: nothing of it will be fed, and all that is owed to it is
@@ -399,55 +349,5 @@ impl Client {
     /// Whether it is to be closed when all is fed, taken and written.
     pub fn is_waiting(&self) -> bool {
         self.leaving.is_some() || self.ended
-    }
-}
-
-/// The most bytes that a WRITE adds to the queue of a client that it matches: in text, five bytes
-/// take three more each.
-fn info_length(message: &[u8]) -> usize {
-    let quoted = |b: &&u8| matches!(b, 0 | b'\n' | b'\r' | b'"' | b'\\');
-    message.len() + 3 * message.iter().filter(quoted).count() + 32
-}
-
-#[cfg(test)]
-mod tests {
-    use super::*;
-    use infod3::{Broker, Feed, Form, Sizes, View};
-
-    /// What a WRITE owes in either form of a stream, as the library's queue counts it.
-    #[test]
-    fn no_info_is_longer_than_it_is_taken_for() {
-        let mut broker = Broker::new(Sizes::SMALLEST).unwrap();
-        let view = View::of(&mut broker).unwrap().unwrap();
-        let nasty: Vec<u8> = (0..40).flat_map(|_| *b"\n\r\"\\\0").collect();
-        for (key, value) in [
-            (&b"k"[..], &b"v"[..]),
-            (b"k", b""),
-            (b"\n", &nasty),
-            (b"", b""),
-        ] {
-            let len = u16::try_from(key.len() + 1 + value.len())
-                .unwrap()
-                .to_be_bytes();
-            let write = [&[4, len[0], len[1]], key, b"\0", value].concat();
-            for text in [true, false] {
-                broker.open(0, Form::Stream).unwrap();
-                if text {
-                    // A blank line fixes the kind; the frame goes by a line of the same meaning.
-                    let quoted: String = value.iter().map(|b| format!("\\{b:03o}")).collect();
-                    let key: String = key.iter().map(|b| format!("\\{b:03o}")).collect();
-                    for line in ["s *\n", &format!("w \"{key}\" \"{quoted}\"\n")] {
-                        assert_eq!(broker.feed(0, line.as_bytes()), Ok(Feed::Done(line.len())));
-                    }
-                } else {
-                    assert_eq!(broker.feed(0, b"\x01\0\x01*"), Ok(Feed::Done(4)));
-                    assert_eq!(broker.feed(0, &write), Ok(Feed::Done(write.len())));
-                }
-                let queued = view.queued(broker.memory(), 0).unwrap();
-                assert!(0 < queued && queued <= info_length(&write), "{queued}");
-                broker.close(0).unwrap();
-                broker = Broker::new(Sizes::SMALLEST).unwrap();
-            }
-        }
     }
 }

@@ -106,7 +106,8 @@ pub fn payload(kind: Kind, message: &[u8]) -> &[u8] {
     message.get(head..).unwrap_or(&[])
 }
 
-/// Whether a message that was taken is an ERROR, which is a client's last one.
+/// Whether a message that was taken is an ERROR. A client's last message is one, and so are the
+/// answers to typing errors: the library alone tells whether the client is shut.
 pub fn is_error(kind: Kind, message: &[u8]) -> bool {
     match kind {
         Kind::Text => message.starts_with(b"ERROR "),

@@ -20,6 +20,8 @@ pub struct Counters {
     pub bytes_out: u64,
     /// Messages that were refused with 100, 101, 102 and 103.
     pub refusals: [u64; 4],
+    /// Those of them that left their client open: typing errors of text clients.
+    pub slips: u64,
     /// Clients whose queue overflowed.
     pub overflows: u64,
     /// WRITE commands on a read-only listener.
@@ -41,7 +43,7 @@ type Counter = (&'static str, &'static str, fn(&Counters) -> u64);
 
 /// All counters but the refusals, which have a number. The line in the log and the page for
 /// Prometheus are made from this list.
-const COUNTERS: [Counter; 14] = [
+const COUNTERS: [Counter; 15] = [
     ("clients_ever", "Clients that got a slot.", |c| {
         c.clients_ever
     }),
@@ -64,6 +66,11 @@ const COUNTERS: [Counter; 14] = [
     ("overflows", "Clients whose queue overflowed.", |c| {
         c.overflows
     }),
+    (
+        "slips",
+        "Messages that were refused and left their client open.",
+        |c| c.slips,
+    ),
     (
         "read_only",
         "WRITE commands on a read-only listener.",
@@ -98,7 +105,8 @@ impl Counters {
 
     /// Clients that were shut: for a refused message or for a queue that overflowed.
     pub fn shut(&self) -> u64 {
-        self.refusals.iter().sum::<u64>() + self.overflows
+        let refused: u64 = self.refusals.iter().sum();
+        refused - self.slips + self.overflows
     }
 }
 
@@ -191,6 +199,7 @@ mod tests {
             bytes_out: 6,
             refusals: [7, 8, 9, 10],
             overflows: 11,
+            slips: 18,
             read_only: 12,
             help: 13,
             too_long: 14,
@@ -203,7 +212,7 @@ mod tests {
     #[test]
     fn the_line_has_every_counter() {
         let expected = "clients_ever=1 without_slot=2 messages_in=3 messages_out=4 bytes_in=5 \
-                        bytes_out=6 shut=45 overflows=11 read_only=12 help=13 too_long=14 silent=15 \
+                        bytes_out=6 shut=27 overflows=11 slips=18 read_only=12 help=13 too_long=14 silent=15 \
                         skipped=16 log_omitted=17 refused_100=7 refused_101=8 refused_102=9 refused_103=10";
         assert_eq!(counters().to_string(), expected);
     }
@@ -236,7 +245,7 @@ mod tests {
             names.push(name);
         }
         let once = names.iter().collect::<std::collections::BTreeSet<_>>();
-        assert_eq!((names.len(), once.len()), (19, 19));
+        assert_eq!((names.len(), once.len()), (20, 20));
         assert!(page.ends_with('\n') && page.contains("\ninfod3_keys 23\n"));
         assert!(page.contains("\ninfod3_messages_in_total 3\n"));
         assert!(page.contains("\ninfod3_refused_total{number=\"103\"} 10\n"));

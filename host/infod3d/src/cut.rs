@@ -10,7 +10,7 @@ pub const LONGEST: usize = 262_152;
 /// The most messages of a transaction that can be committed, its BEGIN and COMMIT included.
 const LONGEST_TRANSACTION: usize = 66;
 /// The most bytes of a transaction that is known again.
-const LONGEST_TALK: usize = 16_384;
+pub const LONGEST_TALK: usize = 16_384;
 
 /// How a client's bytes are to be read.
 #[derive(Clone, Copy, Debug, PartialEq, Eq)]

@@ -3,8 +3,8 @@
 //! Every line of the server itself starts with `#`, and no message of the protocol does: these
 //! start with VERSION, INFO, PONG or ERROR.
 
-/// The page that answers HELP in text mode.
-pub const PAGE: &str = "\
+/// What the page that answers HELP begins with.
+const PAGE: &str = "\
 # infod3 version 0, one command per line; words in any case, one letter will do\r
 # READ key             r   answers INFO \"key\" \"value\", or INFO \"key\" if absent\r
 # WRITE key [value]    w   sets the value; without one the key is deleted\r
@@ -15,8 +15,25 @@ pub const PAGE: &str = "\
 # HELLO [0 [text]]         answers VERSION\r
 # Patterns: ? one byte; *c up to the next c; * at the end the rest; (a|b); \\c plainly c\r
 # A field with spaces is quoted, with \\ooo for a byte in octal: WRITE k \"a b\\012\"\r
+";
+
+/// What is said of a wrong line where a text client stays open after one.
+const GOES_ON: &str = "\
+# A wrong line does nothing and gets ERROR. After ERROR 102 the connection is closed.\r
+# After BEGIN it spoils all up to COMMIT, which then does nothing and gets ERROR 103.\r
+# This page's lines start with #.\r
+";
+
+/// What is said of a wrong line on a listener that hangs up.
+const HANGS_UP: &str = "\
 # After ERROR the connection is closed. This page's lines start with #.\r
 ";
+
+/// The page that answers HELP in text mode, to a client of a listener that hangs up or not.
+pub fn page(hang_up: bool) -> String {
+    let wrong = if hang_up { HANGS_UP } else { GOES_ON };
+    format!("{PAGE}{wrong}")
+}
 
 /// The line for a client that finds no free slot.
 pub fn no_slot(slots: usize) -> String {
@@ -54,7 +71,8 @@ mod tests {
     fn every_line_is_marked_and_ended() {
         let long = [too_long("message", 65_535), too_long("transaction", 8)];
         for text in [
-            PAGE,
+            &page(false),
+            &page(true),
             READ_ONLY,
             &no_slot(32),
             &long[0],

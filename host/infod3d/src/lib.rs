@@ -23,6 +23,7 @@
 //! by then and is closed. A message that it left unfinished is dropped. Of a client that is dead, all
 //! that others can see the effect of is done; what would only bring it answers need not be.
 //!
+//! A text client that makes a typing error gets an ERROR in its turn and goes on, with its patterns.
 //! A client that is shut gets what was queued and its ERROR, and is closed when its socket has
 //! taken all of it, or when it has taken no byte for ten seconds. A server that stops does the same
 //! for all, within ten seconds.

@@ -11,7 +11,7 @@ pub use listeners::escaped;
 pub use page::PAGE;
 
 use crate::listener::Place;
-use infod3::Sizes;
+use infod3::{Form, Sizes};
 use std::fmt;
 use std::net::SocketAddr;
 use std::path::PathBuf;
@@ -79,6 +79,9 @@ pub struct ListenerOptions {
     pub place: Place,
     /// What its clients may do.
     pub access: Access,
+    /// Whether every refusal shuts its clients, those with text lines too; without meaning for
+    /// packets, whose clients are shut in any case.
+    pub hang_up: bool,
     /// Mode and owner of the file of a Unix socket; without meaning for TCP.
     pub rights: UnixRights,
     /// Slots that are kept free for its clients.
@@ -88,11 +91,13 @@ pub struct ListenerOptions {
 }
 
 impl ListenerOptions {
-    /// A listener there, with all commands allowed, no slot reserved and no limits.
+    /// A listener there, with all commands allowed, no slot reserved and no limits, whose text
+    /// clients stay open after a typing error.
     pub fn at(place: Place) -> ListenerOptions {
         ListenerOptions {
             place,
             access: Access::Full,
+            hang_up: false,
             rights: UnixRights::default(),
             reserve: 0,
             limits: Limits::NONE,
@@ -113,6 +118,15 @@ impl ListenerOptions {
     pub fn packets(path: impl Into<PathBuf>) -> ListenerOptions {
         ListenerOptions::at(Place::Packets(path.into()))
     }
+
+    /// The form in which its clients are opened.
+    pub fn form(&self) -> Form {
+        match (&self.place, self.hang_up) {
+            (Place::Packets(_), _) => Form::Packets,
+            (_, false) => Form::Stream,
+            (_, true) => Form::StreamHangUp,
+        }
+    }
 }
 
 /// The place, and what is not as usual there.
@@ -121,6 +135,9 @@ impl fmt::Display for ListenerOptions {
         write!(f, "{}", self.place)?;
         if self.access == Access::ReadOnly {
             f.write_str(" read-only")?;
+        }
+        if self.hang_up {
+            f.write_str(" hang-up")?;
         }
         let numbers = [
             ("reserve", self.reserve, 0),

@@ -348,12 +348,25 @@ mod tests {
         watcher.write_all(b"SUB *\nPING abcdef\n").unwrap();
         watcher.read_exact(&mut answer).unwrap();
         assert_eq!(&answer, b"PONG \"abcdef\"\r\n");
-        writer.write_all(b"WRITE ab cd\nNONSENSE\n").unwrap();
+        // Of two typing errors one leaves it open, and the other spoils its transaction.
+        writer
+            .write_all(b"NONSENSE\nWRITE ab cd\nb\nw ab ef\nr\nc\np x\n")
+            .unwrap();
+        let answers = b"ERROR 100 \"unknown message\"\r\nERROR 101 \"bad parameter\"\r\n\
+                        ERROR 103 \"bad state\"\r\nPONG \"x\"\r\n";
+        let mut found = [0; 90];
+        writer.read_exact(&mut found[..answers.len()]).unwrap();
+        assert_eq!(found[..answers.len()], answers[..]);
+        // A frame that is refused shuts its client.
+        let mut framed = connect();
+        framed.write_all(b"\x08\0\0\x07\0\0").unwrap();
         let mut rest = Vec::new();
-        writer.read_to_end(&mut rest).unwrap();
-        assert_eq!(rest, b"ERROR 100 \"unknown message\"\r\n");
+        framed.read_to_end(&mut rest).unwrap();
+        assert_eq!(rest, b"\x83\0\x10dunknown message");
         watcher.read_exact(&mut answer[..11]).unwrap();
         assert_eq!(&answer[..11], b"INFO \"ab\" \"");
+        // An ERROR of its own waits before the one that shuts it.
+        watcher.write_all(b"s **\n").unwrap();
         // Its queue overflows: the one commit owes it more than fits.
         let value = "x".repeat(230);
         watcher.write_all(b"BEGIN\n").unwrap();
@@ -365,9 +378,11 @@ mod tests {
         watcher.write_all(b"COMMIT\n").unwrap();
         let mut rest = Vec::new();
         watcher.read_to_end(&mut rest).unwrap();
-        assert!(rest.ends_with(b"ERROR 102 \"no room\"\r\n"));
+        let rest = String::from_utf8(rest).unwrap();
+        assert!(rest.contains("ERROR 101 ") && rest.ends_with("ERROR 102 \"no room\"\r\n"));
         handle.stop();
         let counters = running.join().unwrap();
         assert_eq!((counters.overflows, counters.shut()), (1, 2));
+        assert_eq!((counters.slips, counters.refusals), (4, [2, 2, 0, 1]));
     }
 }

@@ -102,7 +102,8 @@ fn a_client_that_reads_is_not_shut_by_what_others_send() {
         let commits: String = (0..25)
             .map(|i| format!("b\nw a{who} {i}\nw b{who} {i}\nc\n"))
             .collect();
-        writer.send(lines + &commits);
+        // A spoiled transaction owes nobody anything, and what comes behind it does.
+        writer.send(format!("b\nw k{who} x\nr\nc\n{lines}{commits}"));
     }
     let mut last = [0; 4];
     for _ in 0..4 * 450 {
@@ -173,6 +174,25 @@ fn a_dead_client_frees_its_slot_after_transactions_too() {
 }
 
 #[test]
+fn a_dead_client_frees_its_slot_after_typing_errors_too() {
+    let server = start(|_| {});
+    fill(&server, 1023, 8);
+    server.log.wait_for_count("close slot", 1);
+    // The last WRITE, which does nothing, is at the end.
+    let slips = "nonsense\nb\nb\nw key.0001 x\r\nc\n".repeat(20_000);
+    die(&server, slips.as_bytes());
+    let until = Instant::now() + Duration::from_secs(10);
+    while server.log.count("close slot") < 2 {
+        assert!(Instant::now() < until, "{}", server.log.text());
+        std::thread::sleep(Duration::from_millis(10));
+    }
+    let counters = server.stop();
+    // Of each five lines the first is passed over, and the other four together. What the system
+    // did not hold for the connection has died with it.
+    assert!(counters.skipped > 5_000, "{counters}");
+}
+
+#[test]
 fn packets_of_a_dead_client_are_done() {
     let server = start(|_| {});
     let mut watcher = server.over_unix();
@@ -213,12 +233,16 @@ fn what_a_dead_client_wrote_is_done() {
     for (key, value) in [(1, "a"), (2, "b"), (3, "c")] {
         assert_eq!(watcher.line(), format!("INFO \"done.{key}\" \"{value}\""));
     }
-    // A message that is refused ends what a client does, whether it is there to hear it or not.
-    for refused in ["s **\n", "nonsense\n", "b\nb\n", "r\n"] {
-        die(&server, format!("{talk}{refused}w done.4 d\n").as_bytes());
+    // A message that shuts a client ends what it does, whether it is there to hear it or not.
+    let pattern = format!("s {}\n", "x".repeat(256));
+    let value = format!("w done.4 {}\n", "x".repeat(70_000));
+    for shutting in [pattern, value] {
+        die(&server, format!("{talk}{shutting}w done.4 d\n").as_bytes());
     }
+    let frames = [frame(7, b""), frame(9, b""), frame(4, b"done.4\0d")];
+    die(&server, &frames.concat());
     let until = Instant::now() + PATIENCE;
-    while server.log.count("close slot") < 6 {
+    while server.log.count("close slot") < 5 {
         assert!(Instant::now() < until, "{}", server.log.text());
         std::thread::sleep(Duration::from_millis(10));
     }
@@ -227,9 +251,41 @@ fn what_a_dead_client_wrote_is_done() {
     assert!(server.stop().skipped > 1000);
 }
 
+#[test]
+fn what_a_dead_client_wrote_behind_a_slip_is_done() {
+    let server = start(|_| {});
+    fill(&server, 1000, 8);
+    let mut watcher = server.over_unix();
+    watcher.send("SUB done*\n");
+    watcher.synchronise();
+    let talk = "s *\nr\nnonsense\nb\ns *\nr\nc\n".repeat(700);
+    for (count, slip) in ["s **\n", "nonsense\n", "b\nb\nc\n", "r\n", "b\nr\nc\n"]
+        .into_iter()
+        .enumerate()
+    {
+        let input = [&talk, slip, &format!("w done.1 {count}\n"), &talk];
+        die(&server, input.concat().as_bytes());
+        assert_eq!(watcher.line(), format!("INFO \"done.1\" \"{count}\""));
+    }
+    // Of a spoiled transaction nothing is done, and what comes behind its COMMIT is.
+    let spoiled = "b\nw done.1 x\nr\nw done.2 x\nc\n";
+    for count in 0..3 {
+        let rest = format!("b\nw done.3 {count}\nw done.4 {count}\nc\n");
+        let input = [&talk, spoiled, &rest, spoiled, &talk];
+        die(&server, input.concat().as_bytes());
+        for key in [3, 4] {
+            assert_eq!(watcher.line(), format!("INFO \"done.{key}\" \"{count}\""));
+        }
+    }
+    watcher.send("READ done.2\n");
+    assert_eq!(watcher.line(), "INFO \"done.2\"");
+    let counters = server.stop();
+    assert!(counters.slips > 0 && counters.skipped > 1000, "{counters}");
+}
+
 /// Lines of a client that says all sorts of things, seldom something wrong.
 fn talk(random: &mut Random) -> String {
-    const LINES: [&str; 22] = [
+    const LINES: [&str; 26] = [
         "s *",
         "s a*",
         "s ?",
@@ -252,6 +308,10 @@ fn talk(random: &mut Random) -> String {
         "r",
         "b\ns *\nr a\nc",
         "b\nu *\nc",
+        "b\ns *\nr\nc",
+        "b\nw a 4\ns **\nw b 4\nc",
+        "c x",
+        "b\nw b 5\nc x",
     ];
     let mut lines = String::new();
     for _ in 0..random.below(120) {
@@ -259,7 +319,7 @@ fn talk(random: &mut Random) -> String {
             0 => random.below(20),
             1..5 => 12 + random.below(4),
             5..8 => 16 + random.below(2),
-            8..13 => 20 + random.below(2),
+            8..13 => 20 + random.below(6),
             _ => random.below(12),
         };
         lines.push_str(LINES[line]);

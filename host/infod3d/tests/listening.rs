@@ -46,7 +46,7 @@ fn two_sockets_of_one_sort_have_their_own_access() {
     };
     assert_eq!((mode(&server.unix), mode(&path)), (0o600, 0o666));
     let listen = format!("listen unix {} read-only\n", path.display());
-    assert_eq!(server.log.count(&listen), 1);
+    server.log.wait_for_count(&listen, 1);
     assert_eq!(server.stop().read_only, 1);
 }
 
@@ -79,7 +79,7 @@ fn reserved_slots_are_kept_for_their_listener() {
     let packets = server.over_packets();
     packets.send(b"\x07x");
     assert_eq!(packets.packet(), b"\x82x");
-    assert_eq!(server.log.count(" reserved=3\n"), 3);
+    server.log.wait_for_count(" reserved=3\n", 3);
     assert_eq!(server.stop().without_slot, 4);
 }
 

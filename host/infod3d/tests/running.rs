@@ -93,17 +93,20 @@ fn the_metrics_are_written_at_the_start_in_between_and_at_the_stop() {
         wait_for(&page, "infod3_clients_ever_total 0");
         let mut client = UnixStream::connect(&socket).expect("connected");
         client.set_read_timeout(Some(PATIENCE)).expect("a timeout");
-        client.write_all(b"WRITE k v\nPING\n").expect("sent");
-        client.read_exact(&mut [0; 9]).expect("an answer");
+        client.write_all(b"WRITE k v\nr\nPING\n").expect("sent");
+        client.read_exact(&mut [0; 36]).expect("two answers");
         if period.is_some() {
             wait_for(&page, "infod3_clients 1");
             wait_for(&page, "infod3_keys 1");
         }
         program.signal("-TERM");
         assert_eq!(program.finish().0, Some(0));
-        wait_for(&page, "infod3_messages_in_total 2");
+        wait_for(&page, "infod3_messages_in_total 3");
         wait_for(&page, "infod3_clients 0");
         wait_for(&page, "infod3_refused_total{number=\"100\"} 0");
+        wait_for(&page, "infod3_refused_total{number=\"101\"} 1");
+        wait_for(&page, "infod3_slips_total 1");
+        wait_for(&page, "infod3_shut_total 0");
         let names = std::fs::read_dir(&folder.0).expect("the folder");
         assert_eq!(names.count(), 1, "only the page is left");
     }

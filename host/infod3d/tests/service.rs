@@ -4,13 +4,13 @@
 mod common;
 
 use common::{frame, sized, start, Client, Running};
-use infod3d::help::{PAGE, READ_ONLY};
+use infod3d::help::{page, READ_ONLY};
 use infod3d::options::{Access, Limits};
 use std::time::Duration;
 
 /// Reads the HELP page line by line.
 fn expect_page(client: &mut Client) {
-    for line in PAGE.split_terminator("\r\n") {
+    for line in page(false).split_terminator("\r\n") {
         assert_eq!(client.line(), line);
     }
 }
@@ -36,7 +36,7 @@ fn help_is_answered_in_order() {
     client.send("HELP\n\x07\0\x01x\n");
     expect_page(&mut client);
     assert_eq!(client.line(), "ERROR 100 \"unknown message\"");
-    assert_eq!(client.rest(), b"");
+    client.synchronise();
 
     // In binary it is an unknown message, and not a page.
     let packets = server.over_packets();
@@ -169,12 +169,15 @@ fn the_messages_of_a_commit_stay_together() {
 fn counters_are_written_when_asked_for() {
     let mut server = sized(4, 4096, 4096, 256);
     let mut client = server.over_tcp();
-    client.send("WRITE a 1\nWRITE b 2\nNONSENSE\n");
+    client.send("WRITE a 1\nWRITE b 2\nNONSENSE\nr\n");
     assert_eq!(client.line(), "ERROR 100 \"unknown message\"");
-    assert_eq!(client.rest(), b"");
+    assert_eq!(client.line(), "ERROR 101 \"bad parameter\"");
+    drop(client);
+    server.log.wait_for("close slot=0");
     let mut other = server.over_unix();
-    other.send("SUB **\n");
-    assert_eq!(other.line(), "ERROR 101 \"bad parameter\"");
+    other.send(frame(1, b"**"));
+    assert_eq!(other.frame().0, 0x83);
+    assert_eq!(other.rest(), b"");
     let mut third = server.over_unix();
     third.synchronise();
     server.write_counters();
@@ -188,11 +191,12 @@ fn counters_are_written_when_asked_for() {
         "clients=1 ",
         "keys=2 ",
         "clients_ever=3 ",
-        "messages_in=5 ",
-        "messages_out=3 ",
-        "shut=2 ",
+        "messages_in=6 ",
+        "messages_out=4 ",
+        "shut=1 ",
+        "slips=2 ",
         "refused_100=1",
-        "refused_101=1",
+        "refused_101=2",
         "refused_102=0",
     ] {
         assert!(line.contains(field), "{field} in {line}");
@@ -210,7 +214,10 @@ fn every_event_is_a_line() {
     let mut client = server.over_tcp();
     client.send("BEGIN\nBEGIN\n");
     assert_eq!(client.line(), "ERROR 103 \"bad state\"");
-    server.log.wait_for("refused 103");
+    let mut framed = server.over_unix();
+    framed.send([frame(5, b""), frame(5, b"")].concat());
+    assert_eq!(framed.frame().0, 0x83);
+    server.log.wait_for("close slot=1");
     let log = server.log.text();
     let pid = std::process::id();
     for event in [
@@ -219,7 +226,9 @@ fn every_event_is_a_line() {
         &format!("open slot=0 unix pid={pid} uid="),
         "help slot=0",
         "open slot=0 tcp 127.0.0.1:",
-        "refused slot=0 103 bad state",
+        "slip slot=0 103 bad state",
+        "refused slot=1 103 bad state",
+        ": refused 103",
     ] {
         assert_eq!(log.matches(event).count(), 1, "{event} in\n{log}");
     }

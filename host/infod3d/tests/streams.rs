@@ -187,7 +187,12 @@ fn random_stream(random: &mut Random, text: bool) -> Vec<u8> {
             14 | 15 => ("BEGIN", 5, vec![]),
             16 | 17 => ("COMMIT", 6, vec![]),
             18 => ("PING", 7, vec![value]),
-            _ if random.below(10) == 0 => ("SUB", 1, vec!["**".to_owned()]),
+            // A frame that is refused is the last one of its stream, and a line need not be.
+            _ if text || random.below(10) == 0 => match random.below(3) {
+                0 => ("SUB", 1, vec!["**".to_owned()]),
+                1 => ("COMMIT", 6, vec![key]),
+                _ => ("NONSENSE", 9, vec![]),
+            },
             _ => ("PING", 7, vec![key]),
         };
         match text {
@@ -217,7 +222,8 @@ fn library_answer(broker: &mut Broker<Vec<u8>>, mut stream: &[u8]) -> Vec<u8> {
             .is_some()
         {}
         match fed {
-            Ok(Feed::Done(len)) => stream = &stream[len..],
+            Ok(Feed::Done(len) | Feed::Refused(_, len)) => stream = &stream[len..],
+            // The rest is no whole message, or the client is shut.
             _ => break,
         }
     }

@@ -12,7 +12,7 @@ pub const LINE_LIMIT: usize = 262_152;
 pub enum Kind {
     /// Form 0: each feed is one message.
     Packets,
-    /// Form 1 before its first message is taken or refused.
+    /// Forms 1 and 2 before their first message is taken or refused.
     Unfixed,
     Framed,
     Text,

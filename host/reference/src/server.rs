@@ -34,12 +34,23 @@ impl Reply {
 #[derive(Clone, Debug)]
 pub struct Client {
     kind: Kind,
+    /// Whether every refusal shuts it, since it was opened in form 2.
+    hangs_up: bool,
     shut: bool,
     patterns: Vec<Pattern>,
-    recording: Option<Recording>,
+    transaction: Transaction,
     queue: VecDeque<Vec<u8>>,
     /// The sum of the charges of the queued messages.
     queued: usize,
+}
+
+/// What a client's BEGIN has started.
+#[derive(Clone, Debug)]
+pub enum Transaction {
+    Off,
+    Begun(Recording),
+    /// A refused message has spoiled it; what was recorded is dropped.
+    Spoiled,
 }
 
 #[derive(Clone, Debug, Default)]
@@ -64,12 +75,13 @@ impl Recording {
 }
 
 impl Client {
-    fn new(kind: Kind) -> Client {
+    fn new(kind: Kind, hangs_up: bool) -> Client {
         Client {
             kind,
+            hangs_up,
             shut: false,
             patterns: Vec::new(),
-            recording: None,
+            transaction: Transaction::Off,
             queue: VecDeque::new(),
             queued: 0,
         }
@@ -77,6 +89,10 @@ impl Client {
 
     pub fn kind(&self) -> Kind {
         self.kind
+    }
+
+    pub fn hangs_up(&self) -> bool {
+        self.hangs_up
     }
 
     pub fn is_shut(&self) -> bool {
@@ -87,8 +103,20 @@ impl Client {
         &self.patterns
     }
 
+    pub fn transaction(&self) -> &Transaction {
+        &self.transaction
+    }
+
+    pub fn is_spoiled(&self) -> bool {
+        matches!(self.transaction, Transaction::Spoiled)
+    }
+
+    /// What is recorded, in a transaction that is not spoiled.
     pub fn recording(&self) -> Option<&Recording> {
-        self.recording.as_ref()
+        match &self.transaction {
+            Transaction::Begun(recording) => Some(recording),
+            Transaction::Off | Transaction::Spoiled => None,
+        }
     }
 
     /// The sum of the charges of the queued messages.
@@ -111,12 +139,45 @@ impl Client {
         self.queue.push_back(message);
     }
 
-    /// Queues the ERROR and drops the patterns and the recording.
+    /// Queues the messages where all of them fit beside what is queued, and else none.
+    fn push_all(&mut self, messages: Vec<Vec<u8>>, queue_room: usize) -> bool {
+        let charges = messages.iter().map(|message| message.len() + OVERHEAD);
+        let fits = self.queued + charges.sum::<usize>() <= queue_room - KEPT_ROOM;
+        if fits {
+            messages.into_iter().for_each(|message| self.push(message));
+        }
+        fits
+    }
+
+    fn error(&self, refusal: u32) -> Vec<u8> {
+        writing::encode(Message::Error(refusal), self.kind)
+    }
+
+    /// Queues the ERROR in the kept room and drops the patterns and the transaction.
     fn shut(&mut self, refusal: u32) {
-        self.push(writing::encode(Message::Error(refusal), self.kind));
+        self.push(self.error(refusal));
         self.shut = true;
         self.patterns = Vec::new();
-        self.recording = None;
+        self.transaction = Transaction::Off;
+    }
+
+    /// Refuses the client's message, and gives the answer. A text client that was opened in form 1
+    /// stays open after 100, 101 and 103 if their ERROR fits in its queue, and is shut with 102 if
+    /// not; a transaction is spoiled. Every other client is shut, and so is everyone by 102.
+    fn refuse(&mut self, refusal: u32, queue_room: usize) -> u32 {
+        let stays = self.kind == Kind::Text && !self.hangs_up && refusal != 102;
+        if !stays {
+            self.shut(refusal);
+            return refusal;
+        }
+        if !self.push_all(vec![self.error(refusal)], queue_room) {
+            self.shut(102);
+            return 102;
+        }
+        if matches!(self.transaction, Transaction::Begun(_)) {
+            self.transaction = Transaction::Spoiled;
+        }
+        refusal
     }
 }
 
@@ -166,15 +227,16 @@ impl Server {
         let Some(place) = self.slots.get_mut(slot) else {
             return Reply::only(2);
         };
-        let kind = match form {
-            0 => Kind::Packets,
-            1 => Kind::Unfixed,
+        let client = match form {
+            0 => Client::new(Kind::Packets, false),
+            1 => Client::new(Kind::Unfixed, false),
+            2 => Client::new(Kind::Unfixed, true),
             _ => return Reply::only(8),
         };
         if place.is_some() {
             return Reply::only(4);
         }
-        *place = Some(Client::new(kind));
+        *place = Some(client);
         Reply::only(0)
     }
 
@@ -229,8 +291,8 @@ impl Server {
         let answer = match done {
             Ok(()) => 0,
             Err(refusal) => {
-                self.used_slot(slot).shut(refusal);
-                refusal
+                let queue_room = self.queue_room;
+                self.used_slot(slot).refuse(refusal, queue_room)
             }
         };
         Reply { answer, count }
@@ -242,21 +304,25 @@ impl Server {
             .expect("the slot holds the client that is served")
     }
 
-    /// Records the command or runs it as a step.
+    /// Records the command or runs it as a step; a COMMIT ends the transaction in any case.
     fn obey(&mut self, slot: usize, command: Command) -> Result<(), u32> {
         let record_room = self.record_room;
         let client = self.used_slot(slot);
-        match (command, client.recording.as_mut()) {
-            (Command::Begin, Some(_)) => Err(103),
-            (Command::Begin, None) => {
-                client.recording = Some(Recording::default());
+        match (command, &mut client.transaction) {
+            (Command::Begin, Transaction::Off) => {
+                client.transaction = Transaction::Begun(Recording::default());
                 Ok(())
             }
-            (Command::Commit, _) => match client.recording.take() {
-                Some(recording) => self.step(slot, recording.commands),
-                None => Ok(()),
-            },
-            (command, Some(recording)) => {
+            (Command::Begin, _) => Err(103),
+            (Command::Commit, transaction) => {
+                match std::mem::replace(transaction, Transaction::Off) {
+                    Transaction::Off => Ok(()),
+                    Transaction::Begun(recording) => self.step(slot, recording.commands),
+                    Transaction::Spoiled => Err(103),
+                }
+            }
+            (_, Transaction::Spoiled) => Ok(()),
+            (command, Transaction::Begun(recording)) => {
                 let charge = command.payload_length() + OVERHEAD;
                 if recording.count() == RECORDED_LIMIT || recording.used + charge > record_room {
                     return Err(102);
@@ -265,7 +331,7 @@ impl Server {
                 recording.commands.push(command);
                 Ok(())
             }
-            (command, None) => self.step(slot, vec![command]),
+            (command, Transaction::Off) => self.step(slot, vec![command]),
         }
     }
 
@@ -370,15 +436,7 @@ impl Server {
             let (Some(client), false) = (place, messages.is_empty()) else {
                 continue;
             };
-            let charge: usize = messages
-                .iter()
-                .map(|message| message.len() + OVERHEAD)
-                .sum();
-            if client.queued + charge <= self.queue_room - KEPT_ROOM {
-                messages
-                    .into_iter()
-                    .for_each(|message| client.push(message));
-            } else {
+            if !client.push_all(messages, self.queue_room) {
                 client.shut(102);
             }
         }

@@ -1,19 +1,25 @@
 //! The examples of document 01, those of the decisions on its open points, and the slips that
-//! it names.
+//! it names; and the typing errors of document 02 (P2), after which a text client stays open.
 
+use reference::server::Transaction;
 use reference::{matches, Match, Reply, Server};
 
 fn server() -> Server {
     Server::set_up(3, 1_024, 1_024, 256).expect("sizes in range")
 }
 
-/// A server with slots 0 and 1 open in form 1.
-fn streams() -> Server {
+/// A server with slots 0 and 1 open in a form.
+fn opened(form: usize) -> Server {
     let mut server = server();
     for slot in 0..2 {
-        assert_eq!(server.open(slot, 1), reply(0, 0));
+        assert_eq!(server.open(slot, form), reply(0, 0));
     }
     server
+}
+
+/// A server with slots 0 and 1 open in form 1.
+fn streams() -> Server {
+    opened(1)
 }
 
 fn reply(answer: u32, count: usize) -> Reply {
@@ -621,14 +627,15 @@ fn commit_finds_room_at_each_turn() {
 }
 
 #[test]
-fn refusal_drops_patterns_and_recording() {
-    let mut server = streams();
+fn refusal_that_shuts_drops_patterns_and_recording() {
+    let mut server = opened(2);
     for text in ["s *", "b", "w k 1"] {
         line(&mut server, 0, text);
     }
     assert_eq!(line(&mut server, 0, "read"), 101);
     let client = server.client(0).expect("a client");
-    assert!(client.is_shut() && client.patterns().is_empty() && client.recording().is_none());
+    assert!(client.is_shut() && client.patterns().is_empty());
+    assert!(matches!(client.transaction(), Transaction::Off));
     line(&mut server, 1, "w k 2");
     assert_eq!(
         drain_text(&mut server, 0),
@@ -643,6 +650,284 @@ fn commit_without_begin() {
     let mut server = streams();
     assert_eq!(line(&mut server, 0, "c"), 0);
     assert_eq!(line(&mut server, 0, "c x"), 101);
+}
+
+#[test]
+fn text_client_stays_open_after_a_typing_error() {
+    let mut server = streams();
+    assert_eq!(server.feed(0, b"XX\n"), reply(100, 3));
+    assert_eq!(
+        drain_text(&mut server, 0),
+        "ERROR 100 \"unknown message\"\r\n"
+    );
+    assert_eq!(line(&mut server, 0, "PING a"), 0);
+    assert_eq!(drain_text(&mut server, 0), "PONG \"a\"\r\n");
+    assert_eq!(line(&mut server, 0, "SUB *"), 0);
+    assert_eq!(line(&mut server, 0, "SUB **"), 101);
+    assert_eq!(line(&mut server, 1, "WRITE k v"), 0);
+    assert_eq!(
+        drain_text(&mut server, 0),
+        "ERROR 101 \"bad parameter\"\r\nINFO \"k\" \"v\"\r\n"
+    );
+}
+
+#[test]
+fn refused_first_line_fixes_the_kind() {
+    for first in ["XX", "sub", "  nonsense"] {
+        let mut server = streams();
+        assert!([100, 101].contains(&line(&mut server, 0, first)));
+        drain(&mut server, 0);
+        assert_eq!(server.feed(0, b"\x07\0\0\n"), reply(100, 4));
+        assert_eq!(line(&mut server, 0, "p"), 0);
+        assert!(drain_text(&mut server, 0).ends_with("PONG \"\"\r\n"));
+    }
+}
+
+/// Feeds the lines, each of which has to get its answer.
+#[track_caller]
+fn lines(server: &mut Server, expected: &[(&str, u32)]) {
+    for (number, (text, answer)) in expected.iter().enumerate() {
+        assert_eq!(line(server, 0, text), *answer, "line {number}: {text}");
+    }
+}
+
+#[test]
+fn slip_spoils_its_transaction() {
+    let mut server = streams();
+    let commands = [
+        ("BEGIN", 0),
+        ("WRITE k v", 0),
+        ("OOPS", 100),
+        ("WRITE k w", 0),
+        ("COMMIT", 103),
+    ];
+    lines(&mut server, &commands);
+    let errors = "ERROR 100 \"unknown message\"\r\nERROR 103 \"bad state\"\r\n";
+    assert_eq!(drain_text(&mut server, 0), errors);
+    assert_eq!(server.store().count(), 0);
+    lines(&mut server, &[("READ k", 0)]);
+    assert_eq!(drain_text(&mut server, 0), "INFO \"k\"\r\n");
+    let after = [("COMMIT", 0), ("BEGIN", 0), ("WRITE k x", 0), ("COMMIT", 0)];
+    lines(&mut server, &after);
+    assert_eq!(server.store().get(b"k"), Some(&b"x"[..]));
+}
+
+#[test]
+fn begin_in_a_transaction_is_103_and_spoils_it() {
+    let mut server = streams();
+    let commands = [
+        ("BEGIN", 0),
+        ("WRITE k v", 0),
+        ("BEGIN", 103),
+        ("BEGIN", 103),
+        ("COMMIT", 103),
+        ("BEGIN", 0),
+        ("COMMIT", 0),
+    ];
+    lines(&mut server, &commands);
+    assert_eq!(server.store().count(), 0);
+}
+
+#[test]
+fn commands_in_a_spoiled_transaction_do_nothing() {
+    let mut server = streams();
+    lines(&mut server, &[("w k v", 0), ("b", 0), ("oops", 100)]);
+    drain(&mut server, 0);
+    for _ in 0..70 {
+        let ping = format!("p {}", "x".repeat(100));
+        lines(&mut server, &[(ping.as_str(), 0), ("", 0), ("  ", 0)]);
+    }
+    for number in 0..20 {
+        assert_eq!(line(&mut server, 0, &format!("s {number}*")), 0);
+    }
+    let write = format!("w big {}", "v".repeat(2_000));
+    lines(
+        &mut server,
+        &[(write.as_str(), 0), ("hello", 0), ("r k", 0)],
+    );
+    lines(&mut server, &[("u *", 0), ("w k", 0)]);
+    assert_eq!(drain_text(&mut server, 0), "");
+    let client = server.client(0).expect("a client");
+    assert!(client.is_spoiled() && client.patterns().is_empty());
+    assert_eq!(server.store().get(b"k"), Some(&b"v"[..]));
+    lines(&mut server, &[("c", 103), ("c", 0)]);
+}
+
+#[test]
+fn bad_commands_in_a_spoiled_transaction_get_their_own_number() {
+    let mut server = streams();
+    let commands = [
+        ("b", 0),
+        ("oops", 100),
+        ("oops", 100),
+        ("s **", 101),
+        ("COMMIT x", 101),
+        ("BEGIN x", 101),
+        ("b", 103),
+        ("c", 103),
+        ("c", 0),
+    ];
+    lines(&mut server, &commands);
+    assert_eq!(drain_text(&mut server, 0).lines().count(), 7);
+    let long = format!("SUB {}", "a".repeat(256));
+    lines(
+        &mut server,
+        &[("b", 0), ("oops", 100), (long.as_str(), 102)],
+    );
+    assert!(server.client(0).is_some_and(|client| client.is_shut()));
+    assert_eq!(line(&mut server, 1, "b"), 0);
+    assert_eq!(line(&mut server, 1, &long), 102);
+    assert_eq!(server.feed(1, b"c\n"), reply(3, 0));
+    assert_eq!(drain_text(&mut server, 1), "ERROR 102 \"no room\"\r\n");
+}
+
+#[test]
+fn commit_with_a_field_spoils_and_does_not_end() {
+    let mut server = streams();
+    let commands = [("b", 0), ("w k v", 0), ("COMMIT x", 101), ("w k w", 0)];
+    lines(&mut server, &commands);
+    lines(&mut server, &[("c", 103), ("c", 0)]);
+    assert_eq!(server.store().count(), 0);
+}
+
+#[test]
+fn slip_outside_a_transaction_spoils_no_later_one() {
+    let mut server = streams();
+    lines(
+        &mut server,
+        &[("oops", 100), ("b", 0), ("w k v", 0), ("c", 0)],
+    );
+    assert_eq!(server.store().get(b"k"), Some(&b"v"[..]));
+}
+
+/// The refusals after which a text client stays open, each with a line that gets it in a
+/// transaction, and with what its ERROR charges.
+const SLIPS: [(&str, u32, usize); 3] = [("XX", 100, 33), ("SUB **", 101, 31), ("BEGIN", 103, 27)];
+
+/// A server whose slot 0 is in a transaction, with its queue charged to so many bytes.
+fn charged(charge: usize) -> Server {
+    let mut server = streams();
+    // A PONG of n bytes charges n + 13.
+    let ping = format!("p {}", "x".repeat(charge - 13));
+    lines(&mut server, &[(ping.as_str(), 0), ("b", 0)]);
+    assert_eq!(server.client(0).map(|client| client.queued()), Some(charge));
+    server
+}
+
+#[test]
+fn error_of_a_slip_fits_beside_the_queue_or_102_stands_in() {
+    for (text, answer, charge) in SLIPS {
+        let mut server = charged(960 - charge);
+        assert_eq!(line(&mut server, 0, text), answer);
+        let client = server.client(0).expect("a client");
+        assert!(!client.is_shut() && client.is_spoiled());
+        assert_eq!(client.queued(), 960);
+        // The queue is full to the byte: the next slip is shut with 102, in the kept room.
+        assert_eq!(line(&mut server, 0, text), 102);
+        assert_eq!(server.feed(0, b"p\n"), reply(3, 0));
+        let all = drain_text(&mut server, 0);
+        assert!(all.contains(&format!("\r\nERROR {answer} ")));
+        assert!(all.ends_with("\r\nERROR 102 \"no room\"\r\n"));
+
+        let mut server = charged(961 - charge);
+        // The count is the line's length all the same.
+        assert_eq!(line(&mut server, 0, text), 102);
+        let client = server.client(0).expect("a client");
+        assert!(client.is_shut() && !client.is_spoiled());
+        assert_eq!(server.feed(0, b"p\n"), reply(3, 0));
+        let all = drain_text(&mut server, 0);
+        assert!(!all.contains(&format!("ERROR {answer} ")));
+        assert!(all.ends_with("\r\nERROR 102 \"no room\"\r\n"));
+    }
+}
+
+#[test]
+fn error_of_a_spoiled_commit_fits_or_102_stands_in() {
+    for (free, answer) in [(27, 103), (26, 102)] {
+        // The ERROR of OOPS charges 33.
+        let mut server = charged(960 - 33 - free);
+        lines(&mut server, &[("OOPS", 100), ("c", answer)]);
+        let client = server.client(0).expect("a client");
+        assert_eq!(client.is_shut(), answer == 102);
+        assert!(matches!(client.transaction(), Transaction::Off));
+    }
+}
+
+#[test]
+fn slips_are_taken_like_any_message() {
+    let mut server = streams();
+    lines(&mut server, &[("oops", 100), ("p a", 0), ("b x", 101)]);
+    let error = b"ERROR 100 \"unknown message\"\r\n";
+    assert_eq!(server.take(0, 28).0, reply(5, 0));
+    assert_eq!(server.take(0, 29), (reply(0, 29), error.to_vec()));
+    assert_eq!(
+        drain_text(&mut server, 0),
+        "PONG \"a\"\r\nERROR 101 \"bad parameter\"\r\n"
+    );
+    // 29 of them fill 957 of 960 bytes.
+    for _ in 0..29 {
+        assert_eq!(line(&mut server, 0, "oops"), 100);
+    }
+    assert_eq!(line(&mut server, 0, "oops"), 102);
+    assert_eq!(drain_text(&mut server, 0).lines().count(), 30);
+}
+
+#[test]
+fn form_2_is_shut_by_every_refusal() {
+    for (text, answer, _) in SLIPS {
+        let mut server = opened(2);
+        lines(&mut server, &[("b", 0), (text, answer)]);
+        assert_eq!(server.feed(0, b"p\n"), reply(3, 0));
+        assert!(drain_text(&mut server, 0).starts_with(&format!("ERROR {answer} ")));
+    }
+    let mut server = opened(2);
+    assert_eq!(server.feed(0, b"XX\n"), reply(100, 3));
+    assert_eq!(server.feed(0, b"p\n"), reply(3, 0));
+    // In every other way it is a stream.
+    assert_eq!(server.feed(1, b"\x07\0\x01x"), reply(0, 4));
+    assert_eq!(drain(&mut server, 1), b"\x82\0\x01x");
+}
+
+#[test]
+fn binary_clients_are_shut_in_every_form() {
+    for form in [1, 2] {
+        let mut server = opened(form);
+        assert_eq!(server.feed(0, b"\x08\0\0"), reply(100, 3));
+        assert_eq!(server.feed(0, b"\x07\0\0"), reply(3, 0));
+        assert_eq!(server.feed(1, b"\x05\0\0"), reply(0, 3));
+        assert_eq!(server.feed(1, b"\x05\0\0"), reply(103, 3));
+        assert_eq!(server.feed(1, b"\x06\0\0"), reply(3, 0));
+    }
+    let mut server = opened(0);
+    assert_eq!(server.feed(0, b"\x01**"), reply(101, 3));
+    assert_eq!(server.feed(0, b"\x07"), reply(3, 0));
+}
+
+#[test]
+fn over_long_line_shuts() {
+    let mut server = streams();
+    let long = vec![b'x'; 262_152];
+    lines(&mut server, &[("b", 0), ("oops", 100)]);
+    assert_eq!(server.feed(0, &long), reply(102, 262_152));
+    assert_eq!(server.feed(0, b"c\n"), reply(3, 0));
+}
+
+#[test]
+fn reopened_slot_goes_by_its_own_form() {
+    for state in [&[("b", 0)][..], &[("b", 0), ("w k v", 0)]] {
+        let mut server = opened(2);
+        lines(&mut server, state);
+        server.close(0);
+        server.open(0, 1);
+        lines(&mut server, &[("XX", 100), ("c", 0), ("b", 0)]);
+    }
+    let mut server = streams();
+    lines(&mut server, &[("b", 0), ("XX", 100)]);
+    server.close(0);
+    server.open(0, 2);
+    drain(&mut server, 0);
+    lines(&mut server, &[("c", 0), ("b", 0), ("XX", 100)]);
+    assert_eq!(server.feed(0, b"c\n"), reply(3, 0));
 }
 
 #[test]
@@ -690,7 +975,7 @@ fn calls_check_in_order() {
     }
     assert_eq!(server.feed(0, b""), reply(2, 0));
     assert_eq!(server.close(0), reply(2, 0));
-    for form in [2, 256, usize::MAX] {
+    for form in [3, 256, usize::MAX] {
         assert_eq!(server.open(0, form), reply(8, 0));
     }
     assert_eq!(server.open(0, 0), reply(0, 0));

@@ -29,7 +29,14 @@ enum Kind {
     Stuck,
     /// Sends `SUB *` for 1.5 seconds without reading, resets, and comes again.
     Resetting,
+    /// Sends typing errors as fast as the server takes them, and reads all answers.
+    Slipping,
 }
+
+/// What a client sends that pipelines or resets.
+const SUBS: &[u8] = b"s *\n";
+/// What a client sends that slips: errors outside of a transaction and inside.
+const SLIPS: &[u8] = b"x\ns **\nb\nb\nw load.0000 x\nc\n";
 
 /// The hostile ones of a phase.
 #[derive(Clone, Copy, Debug, Default)]
@@ -40,6 +47,8 @@ pub struct Plan {
     pub stuck: usize,
     /// Clients that reset.
     pub resetting: usize,
+    /// Clients that slip.
+    pub slipping: usize,
     /// Whether long values are written again and again, so that stuck queues overflow.
     pub churn: bool,
     /// Whether somebody connects and leaves as fast as that goes.
@@ -49,7 +58,7 @@ pub struct Plan {
 impl Plan {
     /// The clients that keep a slot.
     pub fn clients(&self) -> usize {
-        self.pipelining + self.stuck + self.resetting
+        self.pipelining + self.stuck + self.resetting + self.slipping
     }
 }
 
@@ -154,15 +163,20 @@ fn sweep(plan: Plan, tcp: SocketAddr, tally: &Tally) {
         (Kind::Pipelining, plan.pipelining),
         (Kind::Stuck, plan.stuck),
         (Kind::Resetting, plan.resetting),
+        (Kind::Slipping, plan.slipping),
     ];
     let now = Instant::now();
     let each = |(kind, count)| (0..count).map(move |_| Hostile::new(kind, now));
     let mut clients: Vec<Hostile> = kinds.into_iter().flat_map(each).collect();
-    let lines = b"s *\n".repeat(16_384);
+    let [subs, slips] = [SUBS, SLIPS].map(|lines| lines.repeat(65_536 / lines.len()));
     let mut room = vec![0; 65_536];
     while !tally.is_over() {
         for client in &mut clients {
-            client.go_on(tcp, &lines, &mut room, tally);
+            let lines = match client.kind {
+                Kind::Slipping => &slips,
+                _ => &subs,
+            };
+            client.go_on(tcp, lines, &mut room, tally);
         }
         thread::sleep(SWEEP);
     }
@@ -190,7 +204,7 @@ impl Hostile {
             return;
         };
         let worked = match self.kind {
-            Kind::Pipelining => send(stream, lines, &mut self.sent, tally)
+            Kind::Pipelining | Kind::Slipping => send(stream, lines, &mut self.sent, tally)
                 .and_then(|()| receive(stream, room, tally)),
             Kind::Resetting => send(stream, lines, &mut self.sent, tally),
             Kind::Stuck if self.next > now => Ok(()),

@@ -79,13 +79,18 @@ fn phases() -> Vec<Phase> {
         pipelining: clients,
         ..none
     };
+    let slipping = |clients| Plan {
+        slipping: clients,
+        ..none
+    };
     let (stuck, resetting) = (8, 8);
     let churn = true;
     let flood = true;
     let together = Plan {
-        pipelining: 12,
+        pipelining: 10,
         stuck: 4,
-        resetting: 6,
+        resetting: 5,
+        slipping: 3,
         churn,
         flood,
     };
@@ -117,6 +122,8 @@ fn phases() -> Vec<Phase> {
             Log::Read,
         ),
         phase("resets", Keys::Many, Plan { resetting, ..none }, Log::Read),
+        phase("typing errors", Keys::Many, slipping(1), Log::Read),
+        phase("typing errors", Keys::Many, slipping(MANY), Log::Read),
         phase(
             "stalled log, connects",
             Keys::Many,
@@ -381,7 +388,9 @@ mod tests {
     fn bounds_go_by_how_many_are_hostile() {
         let phases = phases();
         let bounds: Vec<f64> = phases.iter().map(Phase::bound).collect();
-        assert_eq!(bounds, [3.0, 3.0, 25.0, 3.0, 25.0, 25.0, 25.0, 25.0, 25.0]);
+        let (one, many) = BOUNDS;
+        let expected = [one, one, many, one, many, many, many, one, many, many, many];
+        assert_eq!(bounds, expected);
         assert!(phases.iter().all(|phase| phase.plan.clients() <= MANY));
     }
 }

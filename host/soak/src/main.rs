@@ -2,7 +2,8 @@
 //! clients that do their worst.
 //!
 //! - [`storm`] is the storm night and [`hostile`] the hostile one, in phases.
-//! - [`night`] has the feeds and subscribers of both, [`check`] what they hold against each other.
+//! - [`night`] has the feeds and subscribers of both, [`check`] what they hold against each other;
+//!   [`typist`] is somebody who types, with errors.
 //! - [`attack`] has the hostile clients, [`ping`] the one whose latency is the figure.
 //! - [`server`] starts a server whose log may stall; [`figures`] and [`table`] make the output.
 
@@ -15,6 +16,7 @@ mod ping;
 mod server;
 mod storm;
 mod table;
+mod typist;
 
 use std::error::Error;
 use std::process::ExitCode;
@@ -144,9 +146,9 @@ mod tests {
             Ok(Request::Hostile(seconds, bounds))
         };
         assert_eq!(read("20"), Ok(Request::Storm(20)));
-        assert_eq!(read("--hostile 45"), hostile(45, None, 1.0));
+        assert_eq!(read("--hostile 55"), hostile(55, None, 1.0));
         assert_eq!(read("60 --slack=2.5 --hostile"), hostile(60, None, 2.5));
-        assert_eq!(read("--hostile=2 --phase 9"), hostile(2, Some(9), 1.0));
+        assert_eq!(read("--hostile=2 --phase 11"), hostile(2, Some(11), 1.0));
         assert_eq!(read("5 -h"), Ok(Request::Help));
     }
 
@@ -155,7 +157,7 @@ mod tests {
         let table = [
             ("", "SECONDS is missing"),
             ("0", "SECONDS is 1 to 86400, not 0"),
-            ("--hostile 44", "SECONDS is 45 to 86400, not 44"),
+            ("--hostile 54", "SECONDS is 55 to 86400, not 54"),
             ("--hostile 1 --phase 9", "SECONDS is 2 to 86400, not 1"),
             ("--fast", "SECONDS is 1 to 86400, not --fast"),
             ("5 6", "6 is one word too many"),
@@ -166,7 +168,7 @@ mod tests {
                 "--hostile 60 --slack nan",
                 "--slack is 0.001 to 1000, not nan",
             ),
-            ("--hostile 60 --phase 10", "--phase is 1 to 9, not 10"),
+            ("--hostile 60 --phase 12", "--phase is 1 to 11, not 12"),
         ];
         for (line, error) in table {
             assert_eq!(read(line), Err(error.to_owned()));

@@ -1,7 +1,7 @@
 //! A storm night's feeds and subscribers, which check all that they receive.
 
 use crate::check::{value, Record};
-use infod3_cli::{Address, Command, Connection, Message, Trouble};
+use infod3_cli::{Address, Command, Connection, Message, Trouble, Wire};
 use std::sync::atomic::{AtomicBool, AtomicU64, Ordering};
 use std::sync::Arc;
 use std::thread::{self, JoinHandle};
@@ -34,6 +34,8 @@ pub struct Night {
     pub reconnects: AtomicU64,
     /// Slow readers that were shut.
     pub shut: AtomicU64,
+    /// Typing errors that were answered.
+    pub slips: AtomicU64,
     /// Visits.
     pub visits: AtomicU64,
     /// Connections that found no free slot and were tried again.
@@ -54,6 +56,7 @@ impl Night {
             written: AtomicBool::new(false),
             reconnects: AtomicU64::new(0),
             shut: AtomicU64::new(0),
+            slips: AtomicU64::new(0),
             visits: AtomicU64::new(0),
             retries: AtomicU64::new(0),
         }
@@ -62,10 +65,16 @@ impl Night {
     /// Connects the client with this number. One that gets no slot tries again, and the answer to
     /// a PING shows that it has one.
     pub fn connect(&self, who: usize) -> Result<Connection, Trouble> {
+        self.connect_in(Wire::Framed, who)
+    }
+
+    /// Connects the client with this number, which speaks so.
+    pub fn connect_in(&self, wire: Wire, who: usize) -> Result<Connection, Trouble> {
         let address = &self.addresses[who % 2];
         let until = Instant::now() + self.patience;
         loop {
-            let tried = Connection::open(address, self.patience).and_then(|mut connection| {
+            let made = Connection::open_in(wire, address, self.patience);
+            let tried = made.and_then(|mut connection| {
                 connection.synchronise(self.patience)?;
                 Ok(connection)
             });

@@ -2,12 +2,14 @@
 //! transaction of two keys. Of 24 subscribers twenty watch a site each, six of them over
 //! connections that come and go, and four analysts watch everything. Three slow readers subscribe
 //! to everything, do not read until they are shut, and come again; one client connects, asks and
-//! leaves, again and again. That makes thirty of the server's 32 slots; a client that finds none
-//! free, since a slow reader is still on its way out, tries again.
+//! leaves, again and again; and somebody types, with errors, and must miss nothing for them. That
+//! makes 31 of the server's 32 slots; a client that finds none free, since a slow reader is still on
+//! its way out, tries again.
 
 use crate::check::{Faults, Record};
 use crate::figures::{sorted, Spread};
-use crate::night::{feed, finish, joined, spawn, subscribe, Night, Written};
+use crate::night::{feed, finish, joined, spawn, subscribe, Night, Written, ANALYSTS};
+use crate::typist::type_on;
 use infod3_cli::{Address, Command, Message, Trouble};
 use infod3d::process::{cpu_seconds, Process};
 use std::error::Error;
@@ -104,6 +106,7 @@ pub fn soak(seconds: u64) -> Result<bool, Box<dyn Error>> {
     let watching: Vec<_> = watching.collect();
     let slow = (0..SLOW_READERS).map(|who| spawn(&night, move |night| read_slowly(night, who)));
     let slow: Vec<_> = slow.collect();
+    let typist = spawn(&night, type_on);
     let visitor = spawn(&night, visit);
     let feeds = (0..night.feeds).map(|who| spawn(&night, move |night| feed(night, who)));
 
@@ -118,9 +121,14 @@ pub fn soak(seconds: u64) -> Result<bool, Box<dyn Error>> {
     let cpu = cpu_seconds(server.id()).unwrap_or(0.0);
 
     let mut found = gather(watching, slow, &written, night.begin);
+    // Whoever types has watched what an analyst watches.
+    let mut typed = joined(typist, night.begin);
+    finish(&mut typed, ANALYSTS, &written);
+    found.faults.add(typed.faults);
     found.faults.lost += visitor.join().map_err(|_| "the visitor failed")?;
     print(&night, seconds, reports, cpu, &mut found);
-    Ok(found.faults == Faults::default() && found.deliveries > 0)
+    let slips = night.slips.load(Ordering::Relaxed);
+    Ok(found.faults == Faults::default() && found.deliveries > 0 && slips > 0)
 }
 
 fn gather(
@@ -151,9 +159,10 @@ fn print(night: &Night, seconds: u64, reports: u64, cpu: f64, found: &mut Found)
     let deliveries = found.deliveries;
     println!("seconds {seconds}  reports {reports}  deliveries {deliveries}");
     println!(
-        "to slow readers {}  shut {}  reconnects {}  visits {}  without slot {}",
+        "to slow readers {}  shut {}  slips {}  reconnects {}  visits {}  without slot {}",
         found.to_slow,
         count(&night.shut),
+        count(&night.slips),
         count(&night.reconnects),
         count(&night.visits),
         count(&night.retries)

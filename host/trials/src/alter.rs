@@ -63,7 +63,7 @@ pub fn alter(mem: &mut Vec<u8>, random: &mut Random) -> &'static str {
     } else {
         0
     };
-    match random.below(if fine { 20 } else { 4 }) {
+    match random.below(if fine { 22 } else { 4 }) {
         0 => flip_bits(mem, random),
         1 => overwrite(mem, random),
         2 => copy_range(mem, random),
@@ -81,12 +81,13 @@ pub fn alter(mem: &mut Vec<u8>, random: &mut Random) -> &'static str {
         12 | 13 => move_queue(mem, sizes, slot, random),
         14 => {
             mem[slot] = *random.pick(&[0, 1, 2]);
-            mem[slot + 1] = *random.pick(&[0, 1, 2, 3]);
+            mem[slot + 1] = random.below(8) as u8;
             "another phase and kind"
         }
         15 => new_patterns(mem, slot, random),
         16 | 17 => new_recording(mem, sizes, slot, random),
-        18 => {
+        18 | 19 => spoil_by_hand(mem, slot, random),
+        20 => {
             let from = sizes.slot(random.below(sizes.n));
             mem.copy_within(from..from + sizes.slot_size(), slot);
             "a slot copied over another"
@@ -212,7 +213,14 @@ fn move_queue(mem: &mut [u8], sizes: Sizes, slot: usize, random: &mut Random) ->
     let queue = slot + 4116 + sizes.r;
     let q = sizes.q;
     let ends = [0, 1, 3, 4, 5, 100, q - 65, q - 64, q - 63, q - 1, q, q + 1];
-    let len = *random.pick(&ends);
+    // What is left is just what the ERROR of 100, 101 or 103 charges as a line, or a byte less.
+    let before_slip = [33, 32, 31, 30, 27, 26].map(|left| q - 64 - left);
+    let is_before_slip = random.one_in(3);
+    let len = *random.pick(if is_before_slip {
+        &before_slip[..]
+    } else {
+        &ends
+    });
     let head = *random.pick(&[0, 1, 7, q - 1, q, q + 1, 2 * q - len.min(2 * q), 2 * q]);
     let tail = head + len;
     put_number(mem, queue, 4, head);
@@ -276,8 +284,23 @@ fn new_recording(mem: &mut [u8], sizes: Sizes, slot: usize, random: &mut Random)
         commands += 1;
     }
     let wrong = random.one_in(8);
-    put_number(mem, recording, 4, if wrong { random.below(3) } else { 1 });
+    put_number(mem, recording, 4, if wrong { random.below(4) } else { 1 });
     put_number(mem, recording + 4, 4, used);
     put_number(mem, recording + 8, 4, commands);
     "a recording by hand"
+}
+
+/// Makes a client one in a spoiled transaction, mostly an open text client, now and then with
+/// something recorded.
+fn spoil_by_hand(mem: &mut [u8], slot: usize, random: &mut Random) -> &'static str {
+    let recording = slot + RECORDING;
+    if random.one_in(8) {
+        put_number(mem, recording, 4, 2);
+        return "another state of a recording";
+    }
+    mem[slot] = if random.one_in(8) { 2 } else { 1 };
+    mem[slot + 1] = *random.pick(&[3, 3, 3, 7, 7, 0, 1, 2, 4, 5, 6]);
+    mem[recording..recording + 12].fill(0);
+    put_number(mem, recording, 4, 2);
+    "a transaction spoiled by hand"
 }

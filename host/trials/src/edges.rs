@@ -3,6 +3,13 @@
 
 use crate::layout::{number, put_number, Sizes, RECORDING, STORE, STORE_ROOM, SUBSCRIPTIONS};
 
+/// The kind of a framed client.
+const FRAMED: u8 = 2;
+/// The kind of a text client.
+const TEXT: u8 = 3;
+/// What is added to the kind of a client that was opened in form 2.
+const HANGS_UP: u8 = 4;
+
 /// What is done with each altered memory: it gets what was altered, and the memory.
 pub type Visit<'a> = &'a mut dyn FnMut(&str, &[u8]);
 
@@ -13,15 +20,16 @@ pub fn edges(mem: &[u8], visit: Visit) {
     one_more_entry(mem, sizes, visit);
     body_lengths(mem, sizes, visit);
     let slot = sizes.slot(sizes.n - 1);
+    kinds(mem, sizes, slot, visit);
     queue_lengths(mem, sizes, slot, visit);
     numbers_of_commands(mem, sizes, slot, visit);
     commands(mem, sizes, slot, visit);
 }
 
-/// Makes the slot one of a client in this phase, with nothing in it.
-fn bare(mem: &mut [u8], sizes: Sizes, slot: usize, phase: u8) {
+/// Makes the slot one of a client in this phase and of this kind, with nothing in it.
+fn bare(mem: &mut [u8], sizes: Sizes, slot: usize, phase: u8, kind: u8) {
     mem[slot] = phase;
-    mem[slot + 1] = 2;
+    mem[slot + 1] = kind;
     put_number(mem, slot + SUBSCRIPTIONS, 4, 0);
     mem[slot + RECORDING..slot + RECORDING + 12].fill(0);
     let queue = slot + 4116 + sizes.r;
@@ -111,6 +119,24 @@ fn body_lengths(mem: &[u8], sizes: Sizes, visit: Visit) {
     }
 }
 
+/// Each kind, and more than there are, in each phase and in each state of a recording that holds
+/// nothing.
+fn kinds(mem: &[u8], sizes: Sizes, slot: usize, visit: Visit) {
+    for phase in 0..4 {
+        for kind in (0..10).chain([0x7F, 0x80, 0xFF]) {
+            for state in 0..4 {
+                let mut altered = mem.to_vec();
+                bare(&mut altered, sizes, slot, phase, kind);
+                put_number(&mut altered, slot + RECORDING, 4, state);
+                visit(
+                    &format!("phase {phase}, kind {kind}, state {state}"),
+                    &altered,
+                );
+            }
+        }
+    }
+}
+
 /// Queues about as long as they may be, of an open and of a shut client, at both ends of the room.
 fn queue_lengths(mem: &[u8], sizes: Sizes, slot: usize, visit: Visit) {
     let (q, queue) = (sizes.q, slot + 4116 + sizes.r);
@@ -118,7 +144,7 @@ fn queue_lengths(mem: &[u8], sizes: Sizes, slot: usize, visit: Visit) {
         for len in [0, 1, 4, q - 65, q - 64, q - 63, q - 1, q, q + 1] {
             for head in [0, 1, 2 * q - len - 1, 2 * q - len, 2 * q - len + 1] {
                 let mut altered = mem.to_vec();
-                bare(&mut altered, sizes, slot, phase);
+                bare(&mut altered, sizes, slot, phase, FRAMED);
                 put_number(&mut altered, queue, 4, head);
                 put_number(&mut altered, queue + 4, 4, head + len);
                 put_number(&mut altered, queue + 8, 4, head + len);
@@ -131,22 +157,45 @@ fn queue_lengths(mem: &[u8], sizes: Sizes, slot: usize, visit: Visit) {
     }
 }
 
-/// As many commands as may be recorded, one fewer and one more.
+/// As many commands as may be recorded, one fewer and one more; and commands, or used bytes
+/// without one, where nothing is recorded.
 fn numbers_of_commands(mem: &[u8], sizes: Sizes, slot: usize, visit: Visit) {
-    for (state, count) in [(0, 0), (0, 1), (1, 0), (1, 63), (1, 64), (1, 65), (2, 0)] {
-        if 4 * count > sizes.r {
+    let numbers = [
+        (0, 0, 0),
+        (0, 1, 4),
+        (0, 0, 4),
+        (1, 0, 0),
+        (1, 0, 4),
+        (1, 63, 252),
+        (1, 64, 256),
+        (1, 65, 260),
+        (2, 0, 0),
+        (2, 1, 4),
+        (2, 1, 0),
+        (2, 0, 1),
+        (2, 0, 4),
+        (3, 0, 0),
+        (3, 1, 4),
+    ];
+    for (state, count, used) in numbers {
+        if used > sizes.r {
             continue;
         }
-        let mut altered = mem.to_vec();
-        bare(&mut altered, sizes, slot, 1);
-        let recording = slot + RECORDING;
-        for i in 0..count {
-            put_number(&mut altered, recording + 12 + 4 * i, 4, 0x0700_0000);
+        for kind in [FRAMED, TEXT, TEXT + HANGS_UP] {
+            let mut altered = mem.to_vec();
+            bare(&mut altered, sizes, slot, 1, kind);
+            let recording = slot + RECORDING;
+            for i in 0..count {
+                put_number(&mut altered, recording + 12 + 4 * i, 4, 0x0700_0000);
+            }
+            put_number(&mut altered, recording, 4, state);
+            put_number(&mut altered, recording + 4, 4, used);
+            put_number(&mut altered, recording + 8, 4, count);
+            visit(
+                &format!("kind {kind}, state {state}, {count} commands in {used} bytes"),
+                &altered,
+            );
         }
-        put_number(&mut altered, recording, 4, state);
-        put_number(&mut altered, recording + 4, 4, 4 * count);
-        put_number(&mut altered, recording + 8, 4, count);
-        visit(&format!("state {state} with {count} commands"), &altered);
     }
 }
 
@@ -158,7 +207,7 @@ fn commands(mem: &[u8], sizes: Sizes, slot: usize, visit: Visit) {
                 continue;
             }
             let mut altered = mem.to_vec();
-            bare(&mut altered, sizes, slot, 1);
+            bare(&mut altered, sizes, slot, 1, FRAMED);
             let recording = slot + RECORDING;
             altered[recording + 16..recording + 16 + payload].fill(b'p');
             put_number(&mut altered, recording + 12, 4, payload);
@@ -194,8 +243,10 @@ mod tests {
             Rule::StoreCounts,
             Rule::StoreRows,
             Rule::KeyOrder,
+            Rule::PhaseAndKind,
             Rule::Recording,
             Rule::Queue,
+            Rule::ShutIsBare,
         ] {
             assert!(outside.contains_key(&rule), "{rule}");
         }

@@ -3,6 +3,8 @@
 
 use std::fmt;
 
+use reference::reading::Kind;
+
 /// One of the rules, by its number on the page.
 #[derive(Clone, Copy, Debug, PartialEq, Eq, PartialOrd, Ord, Hash)]
 pub enum Rule {
@@ -26,7 +28,7 @@ pub enum Rule {
     Recording,
     /// 10: the queue.
     Queue,
-    /// 11: a shut client has no patterns and no recording.
+    /// 11: a shut client has no patterns, and its recording's state is 0.
     ShutIsBare,
 }
 
@@ -205,7 +207,7 @@ fn broken_slot(slot: &[u8], sizes: Sizes) -> Option<Rule> {
     if phase == 0 {
         return None;
     }
-    if phase > 2 || kind > 3 {
+    if phase > 2 || kind > 7 {
         return Some(Rule::PhaseAndKind);
     }
     let patterns = number(slot, SUBSCRIPTIONS, 4);
@@ -228,7 +230,7 @@ fn recording_is_fine(recording: &[u8]) -> bool {
     let used = number(recording, 4, 4);
     let commands = number(recording, 8, 4);
     let room = &recording[12..];
-    if state > 1 || used > room.len() || commands > 64 || (state == 0 && commands > 0) {
+    if state > 2 || used > room.len() || commands > 64 || (state != 1 && commands > 0) {
         return false;
     }
     recorded_rows(&room[..used], commands).is_some()
@@ -336,22 +338,48 @@ pub fn fields(mem: &[u8]) -> Vec<Field> {
     all
 }
 
+/// What the state of a recording means.
+#[derive(Clone, Debug, PartialEq, Eq)]
+pub enum Transaction {
+    /// 0: the client is in no transaction.
+    Off,
+    /// 1: the recorded commands, ID and payload.
+    Begun(Vec<(u8, Vec<u8>)>),
+    /// 2: a refused message has spoiled it.
+    Spoiled,
+}
+
 /// What a client's slot means.
 #[derive(Clone, Debug, PartialEq, Eq)]
 pub struct Client {
     /// Whether the client is shut.
     pub shut: bool,
-    /// 0 packets, 1 a stream whose kind is not fixed, 2 framed, 3 text.
-    pub kind: u8,
+    /// The kind's byte, 4 not counted: 0 packets, 1 a stream whose kind is not fixed, 2 framed,
+    /// 3 text.
+    pub kind: Kind,
+    /// Whether 4 is added to the kind: every refusal shuts the client.
+    pub hangs_up: bool,
     /// The patterns in the order of their cells.
     pub patterns: Vec<Vec<u8>>,
-    /// The recorded commands, ID and payload, while recording.
-    pub recording: Option<Vec<(u8, Vec<u8>)>>,
+    /// The transaction that the client is in.
+    pub transaction: Transaction,
     /// What is queued: the length of each message in four bytes, then its bytes.
     pub queue: Vec<u8>,
 }
 
 impl Client {
+    /// A client that was just opened.
+    pub fn opened(kind: Kind, hangs_up: bool) -> Client {
+        Client {
+            shut: false,
+            kind,
+            hangs_up,
+            patterns: Vec::new(),
+            transaction: Transaction::Off,
+            queue: Vec::new(),
+        }
+    }
+
     /// The first message of the queue, or none where the queue is empty: as many bytes as its
     /// length says, or as many as there are; fewer than four bytes are one empty message.
     pub fn first_message(&self) -> Option<&[u8]> {
@@ -420,9 +448,19 @@ fn client(mem: &[u8], sizes: Sizes, slot: usize) -> Option<Client> {
     let queue = &bytes[4116 + sizes.r..];
     Some(Client {
         shut: bytes[0] == 2,
-        kind: bytes[1],
+        kind: match bytes[1] % 4 {
+            0 => Kind::Packets,
+            1 => Kind::Unfixed,
+            2 => Kind::Framed,
+            _ => Kind::Text,
+        },
+        hangs_up: bytes[1] >= 4,
         patterns: (0..number(bytes, SUBSCRIPTIONS, 4)).map(pattern).collect(),
-        recording: (number(bytes, RECORDING, 4) == 1).then(|| commands.collect()),
+        transaction: match number(bytes, RECORDING, 4) {
+            0 => Transaction::Off,
+            1 => Transaction::Begun(commands.collect()),
+            _ => Transaction::Spoiled,
+        },
         queue: queue[16 + number(queue, 0, 4)..16 + number(queue, 4, 4)].to_vec(),
     })
 }
@@ -489,10 +527,26 @@ mod tests {
         assert_eq!(with(STORE + 4, 4, 0), Some(Rule::StoreRows));
         assert_eq!(with(STORE_ROOM + 6, 1, 1), Some(Rule::StoreRows));
         assert_eq!(with(slot, 1, 3), Some(Rule::PhaseAndKind));
-        assert_eq!(with(slot + 1, 1, 4), Some(Rule::PhaseAndKind));
+        for kind in 0..256 {
+            let due = (kind > 7).then_some(Rule::PhaseAndKind);
+            assert_eq!(with(slot + 1, 1, kind), due, "kind {kind}");
+        }
         assert_eq!(with(slot + SUBSCRIPTIONS, 4, 17), Some(Rule::Patterns));
-        assert_eq!(with(slot + RECORDING, 4, 2), Some(Rule::Recording));
+        for state in 0..9 {
+            let due = (state > 2).then_some(Rule::Recording);
+            assert_eq!(with(slot + RECORDING, 4, state), due, "state {state}");
+        }
+        assert_eq!(with(slot + RECORDING + 4, 4, 4), Some(Rule::Recording));
         assert_eq!(with(slot + RECORDING + 8, 4, 1), Some(Rule::Recording));
+        // One command: its row is its ID and a payload of no bytes.
+        for state in 0..3 {
+            let mut recorded = by_hand();
+            for (i, value) in [state, 4, 1, 0x0700_0000].into_iter().enumerate() {
+                put_number(&mut recorded, slot + RECORDING + 4 * i, 4, value);
+            }
+            let due = (state != 1).then_some(Rule::Recording);
+            assert_eq!(broken(&recorded), due, "a command in state {state}");
+        }
         assert_eq!(with(queue, 4, 1), Some(Rule::Queue));
         assert_eq!(with(queue + 12, 4, 1), Some(Rule::Queue));
         assert_eq!(with(slot, 1, 2), None);
@@ -500,6 +554,12 @@ mod tests {
         shut[slot] = 2;
         put_number(&mut shut, slot + SUBSCRIPTIONS, 4, 1);
         assert_eq!(broken(&shut), Some(Rule::ShutIsBare));
+        for state in [1, 2] {
+            let mut shut = by_hand();
+            shut[slot] = 2;
+            put_number(&mut shut, slot + RECORDING, 4, state);
+            assert_eq!(broken(&shut), Some(Rule::ShutIsBare), "state {state}");
+        }
         assert_eq!(with(slot, 1, 0), None);
     }
 
@@ -508,8 +568,34 @@ mod tests {
         let found = image(&by_hand());
         assert_eq!(found.entries, [(b"k".to_vec(), b"v".to_vec())]);
         let client = found.clients[0].as_ref().unwrap();
-        assert_eq!((client.shut, client.kind), (false, 3));
+        assert_eq!(*client, Client::opened(Kind::Text, false));
         assert_eq!(client.first_message(), None);
         assert!(fields(&by_hand()).iter().any(|field| field.name == "tail"));
+    }
+
+    #[test]
+    fn what_kinds_and_states_mean() {
+        let kinds = [Kind::Packets, Kind::Unfixed, Kind::Framed, Kind::Text];
+        let slot = Sizes::named(&by_hand()).unwrap().slot(0);
+        for (number, kind) in kinds.into_iter().chain(kinds).enumerate() {
+            let mut mem = by_hand();
+            mem[slot + 1] = number as u8;
+            let client = Client::opened(kind, number > 3);
+            assert_eq!(image(&mem).clients, [Some(client)]);
+        }
+        let states = [
+            Transaction::Off,
+            Transaction::Begun(Vec::new()),
+            Transaction::Spoiled,
+        ];
+        for (state, transaction) in states.into_iter().enumerate() {
+            let mut mem = by_hand();
+            put_number(&mut mem, slot + RECORDING, 4, state);
+            let client = Client {
+                transaction,
+                ..Client::opened(Kind::Text, false)
+            };
+            assert_eq!(image(&mem).clients, [Some(client)]);
+        }
     }
 }

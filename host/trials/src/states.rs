@@ -81,6 +81,7 @@ pub fn states(random: &mut Random) -> Vec<State> {
         opened(),
         subscribed(),
         refused(),
+        slipped(),
         recording(),
         full_recording(),
         full_queues(),
@@ -132,8 +133,8 @@ fn subscribed() -> State {
 
 fn refused() -> State {
     let mut maker = Maker::new(6, 256, 1024, 256);
-    for slot in 0..5 {
-        maker.open(slot, usize::from(slot > 0));
+    for (slot, form) in [0, 2, 1, 2, 1].into_iter().enumerate() {
+        maker.open(slot, form);
     }
     maker.serve(0, &packet(7, b"kept"));
     assert_eq!(maker.feed(0, &packet(9, b"")), 100);
@@ -147,6 +148,34 @@ fn refused() -> State {
     maker.drain(3);
     maker.line(4, "WRITE k v");
     maker.named("clients shut by each refusal")
+}
+
+/// Text clients of form 1 after typing errors, and clients of form 2 of each kind.
+fn slipped() -> State {
+    let mut maker = Maker::new(7, 512, 1024, 256);
+    for (slot, form) in [1, 1, 1, 1, 2, 2, 2].into_iter().enumerate() {
+        maker.open(slot, form);
+    }
+    assert_eq!(maker.feed(0, b"FIRST\n"), 100);
+    maker.line(1, "SUB k*");
+    assert_eq!(maker.feed(1, b"SUB **\n"), 101);
+    maker.line(1, "BEGIN");
+    maker.line(1, "WRITE k v");
+    assert_eq!(maker.feed(1, b"BEGIN\n"), 103);
+    maker.line(1, "WRITE k w");
+    maker.line(2, "BEGIN");
+    assert_eq!(maker.feed(2, b"OOPS\n"), 100);
+    assert_eq!(maker.feed(2, b"COMMIT\n"), 103);
+    maker.line(2, "BEGIN");
+    maker.line(2, "WRITE k x");
+    // 960 bytes exactly: the ERROR charges 33 of them.
+    maker.line(3, &format!("PING {}", "x".repeat(914)));
+    assert_eq!(maker.feed(3, b"OOPS\n"), 100);
+    maker.serve(5, &frame(7, b"framed"));
+    maker.line(6, "SUB k");
+    maker.line(6, "BEGIN");
+    maker.line(6, "PING x");
+    maker.named("text clients that have slipped, and clients of form 2")
 }
 
 fn recording() -> State {
@@ -326,7 +355,7 @@ fn wandered(random: &mut Random, number: usize) -> State {
         let slot = random.below(4);
         match random.below(12) {
             0 => {
-                raw::open(&mut maker.mem, slot, random.below(2));
+                raw::open(&mut maker.mem, slot, random.below(3));
             }
             1 if random.one_in(8) => {
                 raw::close(&mut maker.mem, slot);
@@ -343,10 +372,15 @@ fn wandered(random: &mut Random, number: usize) -> State {
     maker.named(&format!("after random commands {number}"))
 }
 
-/// A command in one of the forms, of which most are good.
+/// A command in one of the forms, of which most are good, or a line that is refused.
 pub fn command(random: &mut Random) -> Vec<u8> {
     const KEYS: [&str; 8] = ["", "a", "ab", "b", "site.1", "site.2", "site.10", "z"];
     const PATTERNS: [&str; 8] = ["*", "a*", "site.*", "(a|b)", "?", "site.(1|2)", "a", "\\**"];
+    if random.one_in(16) {
+        return random
+            .pick(&[&b"OOPS\n"[..], b"SUB **\n", b"COMMIT x\n", b"BEGIN x\n"])
+            .to_vec();
+    }
     let key = *random.pick(&KEYS);
     let pattern = *random.pick(&PATTERNS);
     let value = "v".repeat(random.below(40));
@@ -387,7 +421,7 @@ fn escaped(pattern: &str) -> String {
 #[cfg(test)]
 mod tests {
     use super::*;
-    use crate::layout;
+    use crate::layout::{self, Transaction};
 
     #[test]
     fn states_keep_the_rules() {
@@ -397,18 +431,25 @@ mod tests {
         }
         let clients = |state: &State| layout::image(&state.mem).clients;
         let used = all.iter().flat_map(clients).flatten();
-        let mut kinds = [0; 4];
-        let (mut shut, mut recording, mut full) = (0, 0, 0);
+        let mut kinds = [0; 8];
+        let (mut shut, mut full) = (0, 0);
+        let (mut begun, mut spoiled) = (0, 0);
         for client in used {
-            kinds[usize::from(client.kind)] += 1;
+            kinds[client.kind as usize + 4 * usize::from(client.hangs_up)] += 1;
             shut += usize::from(client.shut);
-            recording += usize::from(client.recording.is_some());
             full += usize::from(client.queue.len() == 960);
+            match client.transaction {
+                Transaction::Off => {}
+                Transaction::Begun(_) => begun += 1,
+                Transaction::Spoiled => spoiled += 1,
+            }
         }
-        assert!(kinds.iter().all(|&count| count > 0), "{kinds:?}");
-        assert!(
-            shut > 3 && recording > 5 && full >= 2,
-            "{shut} {recording} {full}"
-        );
+        // No packet client is opened in form 2.
+        let packets_that_hang_up = kinds[4];
+        assert_eq!(packets_that_hang_up, 0);
+        let reached = kinds.iter().filter(|&&count| count > 0).count();
+        assert_eq!(reached, 7, "{kinds:?}");
+        assert!(shut > 3 && full >= 3, "{shut} {full}");
+        assert!(begun > 5 && spoiled > 2, "{begun} {spoiled}");
     }
 }

@@ -12,13 +12,14 @@
 //! INFOD3_DAMAGE_TRACE=1 prints each damage before its calls.
 
 use infod3::raw;
+use reference::reading::Kind;
 use std::collections::BTreeMap;
 use std::sync::atomic::{AtomicU64, Ordering};
 use std::sync::Arc;
 use std::time::{Duration, Instant};
 use trials::alter::{alter, boundaries};
 use trials::edges::edges;
-use trials::expected::{check_served, check_set_up, client_of, Call};
+use trials::expected::{check_served, check_set_up, client_of, fed, Call, Fed, SITUATIONS};
 use trials::guard::{Guarded, How, Lent, Side};
 use trials::layout::{self, number, put_number, Client, Image, Rule, Sizes, STORE, STORE_ROOM};
 use trials::random::Random;
@@ -119,6 +120,9 @@ fn inputs() -> Vec<Input> {
         all.push(frame(id, payload));
     }
     let lines = [
+        "OOPS",
+        "SUB **",
+        "COMMIT x",
         "PING x",
         "SUB *",
         "SUB (a|s*|k?)",
@@ -156,6 +160,8 @@ struct Tally {
     served: u64,
     broken: BTreeMap<Rule, u64>,
     answers: BTreeMap<(&'static str, u32), u64>,
+    /// What feeds that run no step came to.
+    situations: BTreeMap<&'static str, u64>,
     slowest: Duration,
 }
 
@@ -212,7 +218,7 @@ impl Trial {
     /// The calls that a damage is tried with: each of the five kinds, and feed twice.
     fn calls(&mut self, image: Option<&Image>, sizes: Sizes) -> Vec<Call> {
         let mut calls = Vec::with_capacity(6);
-        let form = *self.random.pick(&[0, 1, 1, 2, 256, usize::MAX]);
+        let form = *self.random.pick(&[0, 1, 1, 2, 2, 3, 256, usize::MAX]);
         let slot = self.random.below(sizes.n + 1);
         calls.push(Call::Open { slot, form });
         for _ in 0..2 {
@@ -225,7 +231,8 @@ impl Trial {
             if is_shut(slot) {
                 slot = self.slot(image);
             }
-            let kind = image.and_then(|i| client_of(i, slot)).map_or(0, |c| c.kind);
+            let client = image.and_then(|i| client_of(i, slot));
+            let kind = client.map_or(Kind::Packets, |client| client.kind);
             let input = self.input(kind);
             calls.push(Call::Feed { slot, input });
         }
@@ -257,17 +264,17 @@ impl Trial {
     }
 
     /// An input, and mostly one that a client of this kind understands.
-    fn input(&mut self, kind: u8) -> usize {
+    fn input(&mut self, kind: Kind) -> usize {
         let mut index = 0;
         for _ in 0..6 {
             index = self.random.below(self.inputs.len());
             let bytes = self.inputs[index].bytes(Side::Begins);
             let suits = match (kind, bytes.first()) {
                 (_, None) => false,
-                (0, Some(id)) => *id < 8 && bytes.get(1) != Some(&0),
-                (1, _) => true,
-                (2, Some(id)) => *id < 8,
-                (_, Some(byte)) => *byte >= 0x40,
+                (Kind::Packets, Some(id)) => *id < 8 && bytes.get(1) != Some(&0),
+                (Kind::Unfixed, _) => true,
+                (Kind::Framed, Some(id)) => *id < 8,
+                (Kind::Text, Some(byte)) => *byte >= 0x40,
             };
             if suits {
                 break;
@@ -303,6 +310,9 @@ impl Trial {
         rule: Option<Rule>,
         image: Option<&Image>,
     ) -> Result<(), String> {
+        if let Some(image) = image {
+            self.note_feed(call, image);
+        }
         let (how, how_out, how_in) = (self.how(), self.how(), self.how());
         let side = if how_in == How::Guarded(Side::Begins) {
             Side::Begins
@@ -374,6 +384,21 @@ impl Trial {
             return err(format!("the memory it leaves breaks {rule}"));
         }
         check_served(call, reply, image, after, input, out).or_else(err)
+    }
+
+    /// Counts what a feed to an open client comes to.
+    fn note_feed(&mut self, call: Call, image: &Image) {
+        let Call::Feed { slot, input } = call else {
+            return;
+        };
+        let Some(client) = client_of(image, slot).filter(|client| !client.shut) else {
+            return;
+        };
+        let input = self.inputs[input].bytes(Side::Begins);
+        if let Fed::Told { situation, .. } = fed(client, image.sizes, input) {
+            assert!(SITUATIONS.contains(&situation), "{situation} is listed");
+            *self.tally.situations.entry(situation).or_default() += 1;
+        }
     }
 }
 
@@ -540,6 +565,11 @@ fn print(tally: &Tally, seed: u64, begin: Instant) {
         line.push_str(&format!(" {call} {answer}: {count};"));
     }
     println!("damage: answers:{line}");
+    let mut line = String::new();
+    for (situation, count) in &tally.situations {
+        line.push_str(&format!(" {situation}: {count};"));
+    }
+    println!("damage: feeds that run no step:{line}");
 }
 
 fn from_environment(name: &str) -> Option<u64> {
@@ -574,6 +604,12 @@ fn every_call_on_damaged_memory() {
         assert!(
             trial.tally.broken.contains_key(&rule),
             "no damage breaks {rule}"
+        );
+    }
+    for situation in SITUATIONS {
+        assert!(
+            trial.tally.situations.contains_key(situation),
+            "no feed comes to: {situation}"
         );
     }
     assert!(trial.tally.served > 10_000, "too few calls are served");

@@ -10,15 +10,17 @@ use trials::pair::{shown, Call, Pair, Sizes};
 const SMALL: Sizes = Sizes::new(2, 256, 1_024, 256);
 const LARGE: Sizes = Sizes::new(2, 1_048_576, 1_048_576, 262_144);
 
-/// The three ways to speak to the library.
+/// The ways to speak to the library.
 #[derive(Clone, Copy, Debug, PartialEq, Eq)]
 enum Form {
     Packet,
     Frame,
     Line,
+    /// A line of a client that was opened in form 2.
+    HangUp,
 }
 
-const FORMS: [Form; 3] = [Form::Packet, Form::Frame, Form::Line];
+const FORMS: [Form; 4] = [Form::Packet, Form::Frame, Form::Line, Form::HangUp];
 
 const WORDS: [&[u8]; 8] = [
     b"HELLO 0", b"SUB", b"UNSUB", b"READ", b"WRITE", b"BEGIN", b"COMMIT", b"PING",
@@ -26,13 +28,26 @@ const WORDS: [&[u8]; 8] = [
 
 impl Form {
     fn number(self) -> usize {
-        usize::from(self != Form::Packet)
+        match self {
+            Form::Packet => 0,
+            Form::Frame | Form::Line => 1,
+            Form::HangUp => 2,
+        }
+    }
+
+    fn is_text(self) -> bool {
+        matches!(self, Form::Line | Form::HangUp)
+    }
+
+    /// Whether a client stays open after this refusal.
+    fn stays_open(self, number: u8) -> bool {
+        self == Form::Line && number != 102
     }
 
     /// A message of this ID; HELLO's version is 0 and not in `fields`. `None` where the form
     /// has no such message.
     fn message(self, id: u8, fields: &[&[u8]]) -> Option<Vec<u8>> {
-        if self == Form::Line {
+        if self.is_text() {
             let quoted = fields.iter().map(|field| [b" \"", *field, b"\""].concat());
             return Some(
                 [
@@ -60,7 +75,7 @@ impl Form {
         match self {
             Form::Packet => [&[0x83], &payload[..]].concat(),
             Form::Frame => [&[0x83, 0, payload.len() as u8], &payload[..]].concat(),
-            Form::Line => format!("ERROR {number} \"{text}\"\r\n").into_bytes(),
+            Form::Line | Form::HangUp => format!("ERROR {number} \"{text}\"\r\n").into_bytes(),
         }
     }
 }
@@ -95,6 +110,17 @@ fn send(pair: &mut Pair, slot: usize, form: Form, id: u8, fields: &[&[u8]]) -> u
 fn assert_shut(pair: &mut Pair, slot: usize, form: Form, number: u8, text: &str) {
     assert_eq!(pair.feed(slot, b""), (3, 0));
     assert_eq!(pair.drain(slot).pop(), Some(form.error(number, text)));
+}
+
+/// The slot's last message is this ERROR; it is shut, or it stays open and takes more.
+#[track_caller]
+fn assert_refused(pair: &mut Pair, slot: usize, form: Form, number: u8, text: &str) {
+    if form.stays_open(number) {
+        assert_eq!(pair.feed(slot, b""), (1, 0));
+        assert_eq!(pair.drain(slot).pop(), Some(form.error(number, text)));
+    } else {
+        assert_shut(pair, slot, form, number, text);
+    }
 }
 
 // The sizes of set up.
@@ -215,7 +241,7 @@ fn set_up_empties_memory_in_use() {
 fn wild_slots_and_forms() {
     let mut pair = Pair::new(SMALL, 0);
     for slot in [2, 3, 32, 33, 256, 1 << 32, (1 << 32) + 1, usize::MAX] {
-        for form in [0, 1, 2, 256, usize::MAX] {
+        for form in [0, 1, 2, 3, 256, usize::MAX] {
             assert_eq!(pair.agree(Call::Open { slot, form }), (2, 0));
         }
         assert_eq!(
@@ -235,8 +261,12 @@ fn wild_slots_and_forms() {
         assert_eq!(pair.agree(Call::Take { slot, room: 0 }), (2, 0));
         assert_eq!(pair.agree(Call::Close { slot }), (2, 0));
     }
-    for form in [2, 3, 255, 256, 257, 1 << 32, (1 << 32) + 1, usize::MAX] {
+    for form in [3, 4, 255, 256, 257, 258, 1 << 32, (1 << 32) + 2, usize::MAX] {
         assert_eq!(pair.agree(Call::Open { slot: 1, form }), (8, 0));
+    }
+    for form in 0..3 {
+        assert_eq!(pair.agree(Call::Open { slot: 1, form }), (0, 0));
+        assert_eq!(pair.close(1), 0);
     }
     assert_eq!(pair.agree(Call::Open { slot: 1, form: 1 }), (0, 0));
     assert_eq!(pair.agree(Call::Open { slot: 1, form: 256 }), (8, 0));
@@ -407,7 +437,7 @@ fn groups_four_and_five_deep() {
         let field = pattern.escape_ascii().to_string().replace("\\\\", "\\134");
         for form in FORMS {
             for id in [1, 2] {
-                let field = if form == Form::Line {
+                let field = if form.is_text() {
                     field.as_bytes()
                 } else {
                     pattern
@@ -439,7 +469,7 @@ fn recorded_64_and_65() {
         assert_shut(&mut pair, 0, form, 102, "no room");
         let mut pair = full();
         assert_eq!(send(&mut pair, 0, form, 5, &[]), 103);
-        assert_shut(&mut pair, 0, form, 103, "bad state");
+        assert_refused(&mut pair, 0, form, 103, "bad state");
         let mut pair = full();
         assert_eq!(send(&mut pair, 0, form, 6, &[]), 0);
         assert_eq!(send(&mut pair, 0, form, 7, &[b"x"]), 0);
@@ -676,7 +706,7 @@ fn pong_charge(form: Form) -> usize {
     match form {
         Form::Packet => 5,
         Form::Frame => 7,
-        Form::Line => 13,
+        Form::Line | Form::HangUp => 13,
     }
 }
 
@@ -744,7 +774,7 @@ fn queue_of_another_client() {
         let head = match form {
             Form::Packet => 7,
             Form::Frame => 9,
-            Form::Line => 17,
+            Form::Line | Form::HangUp => 17,
         };
         for (extra, fits) in [(0, true), (1, false)] {
             let mut pair = opened(Sizes::new(2, 2_048, 1_024, 256), form);
@@ -761,9 +791,9 @@ fn queue_of_another_client() {
 }
 
 #[test]
-fn error_fits_in_the_kept_room_of_a_full_queue() {
+fn error_that_shuts_fits_in_the_kept_room_of_a_full_queue() {
     for form in FORMS {
-        let cases: [(u8, &[&[u8]], u32, &str); 3] = [
+        let cases: [(u8, &[&[u8]], u8, &str); 3] = [
             (1, &[b"**"], 101, "bad parameter"),
             (1, &[&[b'a'; 256]], 102, "no room"),
             (5, &[], 103, "bad state"),
@@ -773,8 +803,13 @@ fn error_fits_in_the_kept_room_of_a_full_queue() {
             let fits = 1_024 - 64 - pong_charge(form);
             assert_eq!(send(&mut pair, 0, form, 7, &[&vec![b'p'; fits]]), 0);
             assert_eq!(send(&mut pair, 0, form, 5, &[]), 0);
-            assert_eq!(send(&mut pair, 0, form, id, fields), number);
-            assert_shut(&mut pair, 0, form, number as u8, text);
+            // The ERROR of a client that would stay open has no room there.
+            let (number, text) = match form.stays_open(number) {
+                true => (102, "no room"),
+                false => (number, text),
+            };
+            assert_eq!(send(&mut pair, 0, form, id, fields), u32::from(number));
+            assert_shut(&mut pair, 0, form, number, text);
         }
     }
 }
@@ -803,6 +838,235 @@ fn take_room() {
             (6, 0)
         );
     }
+}
+
+// Typing errors.
+
+/// A line that is refused in a transaction, the refusal, its text and what its ERROR charges.
+const SLIPS: [(&[u8], u8, &str, usize); 3] = [
+    (b"XX\n", 100, "unknown message", 33),
+    (b"SUB **\n", 101, "bad parameter", 31),
+    (b"BEGIN\n", 103, "bad state", 27),
+];
+
+/// Feeds the lines to slot 0, each of which has to get its answer.
+#[track_caller]
+fn lines(pair: &mut Pair, expected: &[(&str, u32)]) {
+    for (number, (text, answer)) in expected.iter().enumerate() {
+        let given = feed(pair, 0, format!("{text}\n").as_bytes());
+        assert_eq!(given, *answer, "line {number}: {text}");
+    }
+}
+
+/// A PING whose PONG charges so many bytes as a line.
+fn ping_charging(charge: usize) -> String {
+    format!("PING {}", "p".repeat(charge - pong_charge(Form::Line)))
+}
+
+#[test]
+fn error_of_a_slip_fits_to_the_byte() {
+    for room in [1_024, 1_025, 1_500, 60_000] {
+        for (line, number, text, charge) in SLIPS {
+            for in_transaction in [false, true] {
+                if number == 103 && !in_transaction {
+                    continue;
+                }
+                let charged = |free: usize| {
+                    let mut pair = opened(Sizes::new(1, 256, room, 256), Form::Line);
+                    lines(&mut pair, &[(&ping_charging(room - 64 - free), 0)]);
+                    if in_transaction {
+                        lines(&mut pair, &[("BEGIN", 0), ("WRITE k v", 0)]);
+                    }
+                    pair
+                };
+                let mut pair = charged(charge);
+                assert_eq!(feed(&mut pair, 0, line), u32::from(number));
+                let client = pair.reference.client(0).expect("a client");
+                assert_eq!(client.queued(), room - 64);
+                assert_eq!(client.is_spoiled(), in_transaction);
+                assert_eq!(pair.feed(0, b""), (1, 0));
+                // Not one more has room, and the 102 in its place goes to the kept room.
+                let mut full = charged(charge);
+                assert_eq!(feed(&mut full, 0, line), u32::from(number));
+                assert_eq!(feed(&mut full, 0, b"XX\n"), 102);
+                assert_shut(&mut full, 0, Form::Line, 102, "no room");
+                // Once a message is taken there is room again.
+                assert!(pair.take(0).is_some());
+                assert_eq!(feed(&mut pair, 0, b"XX\n"), 100);
+                let errors = [
+                    Form::Line.error(number, text),
+                    Form::Line.error(100, "unknown message"),
+                ];
+                assert_eq!(pair.drain(0), errors);
+                let commit = if in_transaction { 103 } else { 0 };
+                lines(&mut pair, &[("COMMIT", commit), ("COMMIT", 0)]);
+                assert_eq!(pair.reference.store().count(), 0);
+
+                let mut pair = charged(charge - 1);
+                assert_eq!(feed(&mut pair, 0, line), 102);
+                assert_eq!(pair.feed(0, b"PING\n"), (3, 0));
+                let messages = pair.drain(0);
+                assert_eq!(messages.len(), 2);
+                assert_eq!(messages[1], Form::Line.error(102, "no room"));
+            }
+        }
+    }
+}
+
+#[test]
+fn error_of_a_spoiled_commit_fits_to_the_byte() {
+    for (free, answer) in [(27, 103), (26, 102)] {
+        let mut pair = opened(SMALL, Form::Line);
+        let ping = ping_charging(960 - 33 - free);
+        lines(&mut pair, &[(&ping, 0), ("BEGIN", 0), ("XX", 100)]);
+        lines(&mut pair, &[("WRITE k v", 0), ("COMMIT", answer)]);
+        if answer == 103 {
+            assert_eq!(pair.drain(0).len(), 3);
+            lines(&mut pair, &[("COMMIT", 0), ("BEGIN", 0), ("COMMIT", 0)]);
+        } else {
+            assert_shut(&mut pair, 0, Form::Line, 102, "no room");
+        }
+        assert_eq!(pair.reference.store().count(), 0);
+    }
+}
+
+#[test]
+fn spoiled_transaction_has_no_limits() {
+    let mut pair = opened(SMALL, Form::Line);
+    for number in 0..16 {
+        lines(&mut pair, &[(&format!("SUB {number}"), 0)]);
+    }
+    lines(&mut pair, &[("BEGIN", 0), ("XX", 100)]);
+    assert_eq!(pair.drain(0).len(), 1);
+    // No 65th command, no record room, no 17th pattern and no store room.
+    for _ in 0..70 {
+        lines(&mut pair, &[("PING x", 0), ("", 0)]);
+    }
+    let long = "r".repeat(60_000);
+    lines(&mut pair, &[(&format!("PING {long}"), 0), ("SUB 17th", 0)]);
+    lines(&mut pair, &[(&format!("WRITE k {long}"), 0), ("READ k", 0)]);
+    lines(&mut pair, &[("UNSUB 3", 0), ("HELLO", 0), ("WRITE k v", 0)]);
+    assert_eq!(pair.drain(0).len(), 0);
+    lines(&mut pair, &[("COMMIT", 103), ("READ k", 0)]);
+    let messages: [&[u8]; 2] = [b"ERROR 103 \"bad state\"\r\n", b"INFO \"k\"\r\n"];
+    assert_eq!(pair.drain(0), messages);
+    // The patterns are those of before, so that one of them may be held anew and no other.
+    lines(&mut pair, &[("SUB 3", 0), ("SUB 17th", 102)]);
+}
+
+#[test]
+fn lengths_shut_in_a_spoiled_transaction_too() {
+    let too_long = [
+        message(Form::Line, 1, &[&[b'a'; 256]]),
+        message(Form::Line, 7, &[&[b'a'; 65_536]]),
+        vec![b'x'; 262_152],
+        vec![b' '; 262_153],
+    ];
+    for input in too_long {
+        for before in [&[][..], &[("BEGIN", 0)], &[("BEGIN", 0), ("XX", 100)]] {
+            let mut pair = opened(SMALL, Form::Line);
+            lines(&mut pair, before);
+            assert_eq!(pair.feed(0, &input), (102, input.len().min(262_152)));
+            assert_shut(&mut pair, 0, Form::Line, 102, "no room");
+        }
+    }
+}
+
+#[test]
+fn bad_begins_and_commits() {
+    let mut pair = opened(SMALL, Form::Line);
+    let commands = [
+        ("BEGIN", 0),
+        ("BEGIN", 103),
+        ("BEGIN", 103),
+        ("COMMIT", 103),
+        ("BEGIN", 0),
+        ("WRITE k v", 0),
+        ("COMMIT x", 101),
+        ("COMMIT x", 101),
+        ("BEGIN x", 101),
+        ("  ", 0),
+        ("COMMIT", 103),
+        ("COMMIT", 0),
+        ("COMMIT x", 101),
+        ("BEGIN x", 101),
+        ("BEGIN", 0),
+        ("WRITE k w", 0),
+        ("COMMIT", 0),
+    ];
+    lines(&mut pair, &commands);
+    assert_eq!(pair.reference.store().get(b"k"), Some(&b"w"[..]));
+}
+
+#[test]
+fn first_line_refused() {
+    for form in [Form::Line, Form::HangUp] {
+        for (line, number, text) in [
+            (&b"XX\n"[..], 100, "unknown message"),
+            (b" x\r", 100, "unknown message"),
+            (b"SUB **\n", 101, "bad parameter"),
+            (b"COMMIT x\n", 101, "bad parameter"),
+        ] {
+            let mut pair = opened(SMALL, form);
+            assert_eq!(feed(&mut pair, 0, line), u32::from(number));
+            assert_refused(&mut pair, 0, form, number, text);
+            if form.stays_open(number) {
+                // The kind is text from there on: as a frame this would be a PING.
+                assert_eq!(pair.feed(0, b"\x07\0\0\n"), (100, 4));
+            }
+        }
+        let mut pair = opened(SMALL, form);
+        assert_eq!(feed(&mut pair, 0, b"\x08\0\0"), 100);
+        assert_shut(&mut pair, 0, Form::Frame, 100, "unknown message");
+    }
+}
+
+#[test]
+fn reopened_slots_go_by_their_own_form() {
+    // What the slot's client before has done, in form 1 and in form 2.
+    let before: [&[(&str, u32)]; 4] = [
+        &[],
+        &[("SUB *", 0)],
+        &[("BEGIN", 0), ("WRITE k v", 0)],
+        &[("BEGIN", 0), ("WRITE k v", 0), ("XX", 100)],
+    ];
+    for (old, new) in [(1, 1), (1, 2), (2, 1), (2, 2)] {
+        for commands in before {
+            let mut pair = Pair::new(SMALL, 0);
+            assert_eq!(pair.open(0, old), 0);
+            lines(&mut pair, commands);
+            assert_eq!((pair.close(0), pair.open(0, new)), (0, 0));
+            lines(&mut pair, &[("COMMIT", 0), ("BEGIN", 0), ("PING x", 0)]);
+            lines(&mut pair, &[("COMMIT", 0), ("XX", 100)]);
+            assert_eq!(pair.feed(0, b"PING y\n").0, if new == 1 { 0 } else { 3 });
+            assert_eq!(pair.drain(0).len(), if new == 1 { 3 } else { 2 });
+        }
+    }
+}
+
+#[test]
+fn slips_leave_others_alone() {
+    let mut pair = opened(Sizes::new(2, 256, 1_024, 256), Form::Line);
+    assert_eq!(feed(&mut pair, 1, b"BEGIN\n"), 0);
+    assert_eq!(feed(&mut pair, 1, b"WRITE k v\n"), 0);
+    lines(&mut pair, &[("SUB *", 0), ("BEGIN", 0), ("XX", 100)]);
+    assert_eq!(feed(&mut pair, 1, b"COMMIT\n"), 0);
+    // The patterns of a client in a spoiled transaction are asked as ever.
+    let messages = [
+        Form::Line.error(100, "unknown message"),
+        b"INFO \"k\" \"v\"\r\n".to_vec(),
+    ];
+    assert_eq!(pair.drain(0), messages);
+    // A client in a spoiled transaction that does not take is shut by others' WRITEs.
+    lines(&mut pair, &[(&ping_charging(900), 0)]);
+    assert_eq!(pair.drain(0).len(), 0);
+    for number in 0..60 {
+        assert_eq!(
+            feed(&mut pair, 1, format!("WRITE k {number}\n").as_bytes()),
+            0
+        );
+    }
+    assert_shut(&mut pair, 0, Form::Line, 102, "no room");
 }
 
 // Run by a program and compared.

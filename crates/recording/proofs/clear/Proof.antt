@@ -1,6 +1,6 @@
 use mathlib.Core.Path.{refl}
 use native.Mathlib.Omega.{arith}
-use Rattle.recording.specs.Region.{stateFine}
+use Rattle.recording.specs.Region.{transactionIn, stateFine}
 use Rattle.recording.proofs.Regions.{sized-bounds}
 use Rattle.recording.proofs.Writing.{becomes-empty}
 use borrow.Author.Needs.{needs}
@@ -11,7 +11,7 @@ put-header-requires : tie.Need-put-header-requires
 put-header-requires c κs = sized-bounds (c .before .before .args .r .now) (c .before .before .pre) .0
 
 returns : tie.Need-returns
-unfolding stateFine
+unfolding transactionIn stateFine
 returns c =
     let start = c .before .before .before .before .before in
     rw (c .before .before .put-header .ensures) (becomes-empty (start .args .r .now) 0 (start .pre) (omega arith) refl)

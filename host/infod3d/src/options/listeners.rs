@@ -12,6 +12,8 @@ use std::path::Path;
 pub struct Said {
     /// What its clients may do.
     pub access: Option<Access>,
+    /// That every refusal shuts its clients.
+    pub hang_up: Option<()>,
     /// The mode of the socket's file.
     pub mode: Option<u32>,
     /// The owner of the socket's file.
@@ -37,6 +39,7 @@ impl Said {
         ListenerOptions {
             place,
             access: self.access.or(sort.access).unwrap_or(Access::Full),
+            hang_up: self.hang_up.is_some(),
             rights: UnixRights {
                 mode: self.mode.or(sort.mode).unwrap_or(plain.mode),
                 uid,
@@ -64,6 +67,7 @@ impl Said {
         let new = match (name, value) {
             ("read-only", None) => once(&mut self.access, Access::ReadOnly),
             ("read-write", None) => once(&mut self.access, Access::Full),
+            ("hang-up", None) => once(&mut self.hang_up, ()),
             ("mode", Some(text)) => once(&mut self.mode, values::mode(&full, text)?),
             ("owner", Some(text)) => once(&mut self.owner, values::owner(text)?),
             ("reserve", Some(text)) => once(&mut self.reserve, values::number(&full, text)?),
@@ -86,11 +90,15 @@ fn once<T>(said: &mut Option<T>, value: T) -> bool {
 }
 
 fn unknown(option: &str, word: &str) -> String {
-    let words = match option {
-        "--tcp" => "read-only, read-write, reserve= and longest-key=, -message=, -pattern= and -transaction=",
-        _ => "read-only, read-write, mode=, owner=, reserve= and longest-key=, -message=, -pattern= and -transaction=",
+    let own = match option {
+        "--tcp" => "hang-up, ",
+        "--unix" => "hang-up, mode=, owner=, ",
+        _ => "mode=, owner=, ",
     };
-    format!("{option}: {word:?} is none of the words {words}; a comma in a path is written ,,")
+    format!(
+        "{option}: {word:?} is none of the words read-only, read-write, {own}reserve= and \
+         longest-key=, -message=, -pattern= and -transaction=; a comma in a path is written ,,"
+    )
 }
 
 /// A listener as `option` names it: its place, and what it says itself.
@@ -109,9 +117,22 @@ pub fn listener(option: &str, value: OsString) -> Result<(Place, Said), String> 
         "--unix" => Place::Unix(place.into()),
         _ => Place::Packets(place.into()),
     };
-    match (&place, said.mode, said.owner) {
-        (Place::Tcp(_), None, None) | (Place::Unix(_) | Place::Packets(_), ..) => Ok((place, said)),
-        (Place::Tcp(_), ..) => Err("--tcp: a port has no file, so no mode= and no owner=".into()),
+    check(&place, &said)?;
+    Ok((place, said))
+}
+
+/// That all of it can be said of a listener there.
+fn check(place: &Place, said: &Said) -> Result<(), String> {
+    let has_file = said.mode.is_some() || said.owner.is_some();
+    match place {
+        Place::Tcp(_) if has_file => {
+            Err("--tcp: a port has no file, so no mode= and no owner=".to_owned())
+        }
+        Place::Packets(_) if said.hang_up.is_some() => Err(
+            "--seqpacket: hang-up is for text lines; with packets every refusal closes the client"
+                .to_owned(),
+        ),
+        _ => Ok(()),
     }
 }
 

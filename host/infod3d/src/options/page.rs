@@ -54,6 +54,12 @@ pub const PAGE: Page = Page {
                          so and closed",
                     ),
                     (
+                        "hang-up",
+                        "a client with text lines is closed after every ERROR, as all others are; \
+                         without it one that makes a typing error gets its ERROR and goes on. Not \
+                         for --seqpacket",
+                    ),
+                    (
                         "reserve=N",
                         "slots that are kept free for clients of this listener",
                     ),
@@ -169,6 +175,13 @@ pub const PAGE: Page = Page {
                 Block::Example(
                     "infod3d --unix /run/infod3/feed.sock,mode=0660,reserve=4 \\\n    \
                      --tcp 127.0.0.1:7070,read-only,longest-pattern=64,longest-transaction=8",
+                ),
+                Block::Text(
+                    "A second port for scripts that send text lines and take a closed connection for \
+                     a refused one:",
+                ),
+                Block::Example(
+                    "infod3d --tcp 127.0.0.1:7070 --tcp 127.0.0.1:7071,hang-up",
                 ),
             ],
         ),

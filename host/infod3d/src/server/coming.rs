@@ -4,7 +4,6 @@ use super::{Failure, Server};
 use crate::client::{Client, Reason};
 use crate::help;
 use crate::socket::{Found, Socket};
-use infod3::Form;
 use std::io;
 use std::time::{Duration, Instant};
 
@@ -50,14 +49,10 @@ impl Server {
             self.turn_away(socket, &peer, now);
             return Ok(());
         };
-        let form = match socket.is_packets() {
-            true => Form::Packets,
-            false => Form::Stream,
-        };
-        self.broker.open(slot, form)?;
+        let listener = &self.listeners[index].options;
+        self.broker.open(slot, listener.form())?;
         self.counters.clients_ever += 1;
         self.log.client(format_args!("open slot={slot} {peer}"));
-        let listener = &self.listeners[index].options;
         self.clients[slot] = Some(Client::new(socket, peer, listener, now));
         self.origins[slot] = index;
         let others: Vec<usize> = (0..self.clients.len())
@@ -173,7 +168,10 @@ impl Server {
                 None => Reason::Ended,
             };
             let reason = client.leaving.or(lost).unwrap_or(quietly);
-            let mut note = String::new();
+            let mut note = match client.slips {
+                0 => String::new(),
+                count => format!(", slips={count}"),
+            };
             let untaken = client.dropped + queued.unwrap_or(0);
             for (bytes, what) in [(client.input.len(), "fed"), (untaken, "taken")] {
                 if bytes > 0 {

@@ -6,7 +6,7 @@ use crate::command::{first_length, hello_text, Command};
 use crate::help;
 use crate::options::Access;
 use crate::shown;
-use infod3::{Error, Feed};
+use infod3::{Error, Feed, Refusal};
 use std::time::Instant;
 
 impl Server {
@@ -78,11 +78,7 @@ impl Server {
             }
             Ok(Feed::Refused(refusal, n)) if n == len => {
                 self.counters.messages_in += 1;
-                self.counters.refused(refusal);
-                let number = refusal.number();
-                self.log
-                    .client(format_args!("refused slot={slot} {number} {refusal}"));
-                client.leave(Reason::Refused(refusal), now);
+                self.note_refused(slot, command, refusal, len, now)?;
             }
             // Its queue overflowed by what another client sent, or by its own last message.
             Err(Error::Shut) => self.note_overflow(slot, now),
@@ -90,10 +86,43 @@ impl Server {
             Err(error) => return Err(error.into()),
         }
         if let Some(client) = &mut self.clients[slot] {
-            client.input.remove(len);
+            client.remove(len);
         }
         self.expect_messages();
         self.look(slot, now);
+        Ok(())
+    }
+
+    /// Notes that a client's first message was refused. A text client goes on after a typing error;
+    /// any other is shut, and leaves.
+    fn note_refused(
+        &mut self,
+        slot: usize,
+        command: Command,
+        refusal: Refusal,
+        len: usize,
+        now: Instant,
+    ) -> Result<(), Failure> {
+        let shut = self.is_shut(slot)?;
+        let Some(client) = &mut self.clients[slot] else {
+            return Ok(());
+        };
+        self.counters.refused(refusal);
+        let number = refusal.number();
+        if shut {
+            client.leave(Reason::Refused(refusal), now);
+            self.log
+                .client(format_args!("refused slot={slot} {number} {refusal}"));
+            return Ok(());
+        }
+        self.counters.slips += 1;
+        client.note_slip(command, refusal, len, self.changes);
+        if client.is_slip_told(now) {
+            let slips = client.slips;
+            self.log.client(format_args!(
+                "slip slot={slot} {number} {refusal} slips={slips}"
+            ));
+        }
         Ok(())
     }
 
@@ -105,7 +134,7 @@ impl Server {
         };
         let fed = self.broker.feed(slot, b"\n");
         client.note_accepted(Command::Help, len, self.changes);
-        client.input.remove(len);
+        client.remove(len);
         match fed {
             Ok(Feed::Done(1)) => {}
             Ok(other) => return Err(Failure::Library(Error::Unexpected(other.number()))),
@@ -113,7 +142,8 @@ impl Server {
             Err(Error::Shut) => return Ok(()),
             Err(error) => return Err(error.into()),
         }
-        client.say(help::PAGE);
+        let listener = &self.listeners[self.origins[slot]].options;
+        client.say(&help::page(listener.hang_up));
         self.counters.help += 1;
         self.log.client(format_args!("help slot={slot}"));
         Ok(())

@@ -5,6 +5,7 @@ use crate::client::{Client, Reason};
 use crate::command::is_error;
 use crate::cut::Kind;
 use crate::sys;
+use infod3::{Error, Feed};
 use std::time::Instant;
 
 /// Messages that are taken for a client at once, and bytes from which on no further one is.
@@ -23,6 +24,22 @@ impl Server {
         client.queued = !client.drained && view.waiting(memory, slot) != Some(false);
         if client.leaving.is_none() && view.shut(memory, slot) == Some(true) {
             self.note_overflow(slot, now);
+        }
+    }
+
+    /// Whether the library has shut a client. Where the memory does not tell, a feed of nothing
+    /// does: it alters nothing unless the client speaks in packets and is open. So this is asked
+    /// only where there is an ERROR, which shuts every client with packets.
+    pub(super) fn is_shut(&mut self, slot: usize) -> Result<bool, Failure> {
+        let memory = self.broker.memory();
+        if let Some(shut) = self.view.and_then(|view| view.shut(memory, slot)) {
+            return Ok(shut);
+        }
+        match self.broker.feed(slot, b"") {
+            Ok(Feed::More) => Ok(false),
+            Ok(other) => Err(Failure::Library(Error::Unexpected(other.number()))),
+            Err(Error::Shut) => Ok(true),
+            Err(error) => Err(error.into()),
         }
     }
 
@@ -45,6 +62,7 @@ impl Server {
             };
             let Some(len) = self.broker.take(slot, &mut self.take_room)? else {
                 client.queued = false;
+                client.drained = client.leaving.is_some();
                 return Ok(());
             };
             bytes += len;
@@ -56,9 +74,7 @@ impl Server {
             if client.output.is_full() {
                 self.counters.bytes_out += client.write(now) as u64;
             }
-            if is_error(client.kind, message) {
-                client.drained = true;
-                client.queued = false;
+            if is_error(client.kind, message) && self.is_shut(slot)? {
                 self.note_overflow(slot, now);
             }
             self.look(slot, now);

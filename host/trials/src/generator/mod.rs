@@ -9,7 +9,8 @@ pub mod messages;
 use std::collections::VecDeque;
 
 use reference::reading::Kind;
-use reference::Server;
+use reference::server::Transaction;
+use reference::{Reply, Server};
 
 use crate::pair::{Call, Sizes};
 use crate::random::Random;
@@ -43,9 +44,10 @@ enum Planned {
     /// A command of the usual mix with a few bytes altered.
     Mutated,
     Blank,
-    /// A PING whose PONG leaves so many bytes of the queue's room, or passes it by one.
+    /// A PING whose PONG leaves so many bytes of the queue's room, or passes it by one where that
+    /// is none.
     FillQueue {
-        over: bool,
+        free: Option<usize>,
     },
     /// A WRITE that leaves nothing of the store's room, or passes it by one.
     FillStore {
@@ -121,17 +123,20 @@ impl Generator {
         }
     }
 
-    /// What the host learns from a feed: the bytes consumed, or that the client is shut.
-    pub fn after_feed(&mut self, slot: usize, answer: u32, count: usize) {
+    /// What the host learns from a feed: the bytes consumed, and whether the client is shut. A
+    /// client that stays open after a refusal goes on with its plan.
+    pub fn after_feed(&mut self, slot: usize, reply: Reply, server: &Server) {
         let Some(feeder) = self.feeders.get_mut(slot) else {
             return;
         };
-        match answer {
-            0 => {
-                feeder.pending.drain(..count.min(feeder.pending.len()));
+        let is_open = server.client(slot).is_some_and(|client| !client.is_shut());
+        match reply.answer {
+            1 => feeder.waits += 1,
+            0 | 100..=103 if is_open => {
+                let consumed = reply.count.min(feeder.pending.len());
+                feeder.pending.drain(..consumed);
                 feeder.waits = 0;
             }
-            1 => feeder.waits += 1,
             _ => {
                 *feeder = Feeder {
                     text: feeder.text,
@@ -151,7 +156,7 @@ impl Generator {
         match self.rng.below(9) {
             0 => Call::Open {
                 slot,
-                form: self.rng.below(3),
+                form: self.rng.below(4),
             },
             1 => Call::Feed {
                 slot,
@@ -159,13 +164,13 @@ impl Generator {
             },
             2 => Call::Take { slot, room: 100 },
             3 => Call::Close { slot },
-            4 => {
-                let form = *self.rng.pick(&[2, 3, 255, 256, 257, 1 << 32, usize::MAX]);
-                Call::Open { slot: near, form }
-            }
+            4 => Call::Open {
+                slot: near,
+                form: self.no_form(),
+            },
             5 => Call::Open {
                 slot: near,
-                form: self.rng.below(2),
+                form: self.rng.below(3),
             },
             6 => Call::SetUp(self.other_sizes()),
             7 => {
@@ -190,6 +195,13 @@ impl Generator {
                 room: 0,
             },
         }
+    }
+
+    /// A number above every form; the lowest byte of some is that of a form.
+    fn no_form(&mut self) -> usize {
+        *self
+            .rng
+            .pick(&[3, 4, 255, 256, 257, 258, 1 << 32, (1 << 32) + 2, usize::MAX])
     }
 
     /// Sizes that are out of range, or that ask for more memory than is lent.
@@ -238,9 +250,13 @@ impl Generator {
             },
             1 => Call::Take { slot, room: 10 },
             2 => Call::Close { slot },
+            3 => Call::Open {
+                slot,
+                form: self.no_form(),
+            },
             _ => Call::Open {
                 slot,
-                form: usize::from(self.rng.chance(70)),
+                form: *self.rng.pick(&[0, 1, 1, 1, 2]),
             },
         }
     }
@@ -255,22 +271,30 @@ impl Generator {
                 slot,
                 input: b"\x07\0\0\n".to_vec(),
             },
-            3 => Call::Open { slot, form: 1 },
+            3 => Call::Open {
+                slot,
+                form: self.rng.below(3),
+            },
             4..=9 => Call::Close { slot },
             _ => self.take(server, slot),
         }
     }
 
     fn on_open(&mut self, server: &Server, slot: usize) -> Call {
-        if self.feeders[slot].waits > 5 || self.rng.one_in(250) {
+        let client = server.client(slot);
+        let is_in_transaction =
+            client.is_some_and(|client| !matches!(client.transaction(), Transaction::Off));
+        let closes = if is_in_transaction { 80 } else { 250 };
+        if self.feeders[slot].waits > 5 || self.rng.one_in(closes) {
             return Call::Close { slot };
         }
         if self.rng.one_in(200) {
-            return Call::Open { slot, form: 1 };
+            return Call::Open {
+                slot,
+                form: self.rng.below(3),
+            };
         }
-        let is_empty = server
-            .client(slot)
-            .is_some_and(|client| client.queued() == 0);
+        let is_empty = client.is_some_and(|client| client.queued() == 0);
         let takes = if is_empty { 2 } else { self.takes };
         if self.rng.chance(takes) {
             return self.take(server, slot);
@@ -361,7 +385,7 @@ impl Generator {
                 return messages::blank_line(rng)
             }
             Planned::Blank => Command::Ping(Vec::new()),
-            Planned::FillQueue { over } => {
+            Planned::FillQueue { free } => {
                 let used = server.client(slot).map_or(0, |client| client.queued());
                 let head = match kind {
                     Kind::Packets => 1,
@@ -369,7 +393,11 @@ impl Generator {
                     Kind::Unfixed if !text => 3,
                     _ => 9,
                 };
-                let left = (sizes.q - 64).saturating_sub(used + 4 + head) + usize::from(over);
+                let room = match free {
+                    Some(free) => sizes.q - 64 - free,
+                    None => sizes.q - 64 + 1,
+                };
+                let left = room.saturating_sub(used + 4 + head);
                 Command::Ping(rng.word(b"xyz", left.min(65_535)))
             }
             Planned::FillStore { over } => {
@@ -404,6 +432,9 @@ impl Generator {
         if self.rng.chance(self.profile.bad) {
             return vec![Planned::Bad];
         }
+        if self.stays_open(server, slot) && self.rng.chance(12) {
+            return self.plan_of_slips(server, slot);
+        }
         match self.rng.below(20) {
             0..=1 => {
                 let length = self.rng.between(0, 12);
@@ -434,6 +465,102 @@ impl Generator {
         plan
     }
 
+    /// Whether the slot's client is, or is to become, a text client that stays open after a
+    /// typing error.
+    fn stays_open(&self, server: &Server, slot: usize) -> bool {
+        server.client(slot).is_some_and(|client| {
+            let is_text = match client.kind() {
+                Kind::Text => true,
+                Kind::Unfixed => self.feeders[slot].text,
+                Kind::Packets | Kind::Framed => false,
+            };
+            is_text && !client.hangs_up()
+        })
+    }
+
+    /// Typing errors of a text client, inside and outside transactions.
+    fn plan_of_slips(&mut self, server: &Server, slot: usize) -> Vec<Planned> {
+        let begin = || Planned::Command(Command::Begin);
+        let commit = || Planned::Command(Command::Commit);
+        let mut plan = Vec::new();
+        match self.rng.below(8) {
+            0..=1 => (0..self.rng.between(1, 4)).for_each(|_| plan.push(Planned::Bad)),
+            2 => return self.plan_of_a_full_queue(),
+            3 => {
+                // What would be refused with 102 in a transaction that is not spoiled.
+                let over = true;
+                if self.rng.chance(30) {
+                    (0..16).for_each(|_| plan.push(self.fresh_pattern()));
+                }
+                plan.push(begin());
+                plan.push(self.slip());
+                match self.rng.below(4) {
+                    0 => (0..66).for_each(|_| plan.push(self.small_command(server))),
+                    1 => plan.push(Planned::FillRecording { over }),
+                    2 => plan.push(Planned::FillStore { over }),
+                    _ => (0..3).for_each(|_| plan.push(self.fresh_pattern())),
+                }
+                plan.push(commit());
+            }
+            4 => {
+                // What is refused with 102 in a spoiled transaction too.
+                plan.push(begin());
+                plan.push(self.slip());
+                plan.push(match self.rng.one_in(10) {
+                    true => Planned::Raw(vec![b'l'; 262_152]),
+                    false => Planned::Command(Command::Sub(self.rng.word(b"ab", 256))),
+                });
+            }
+            _ => {
+                plan.push(begin());
+                (0..self.rng.below(4)).for_each(|_| plan.push(Planned::Any));
+                plan.push(self.slip());
+                for _ in 0..self.rng.below(6) {
+                    plan.push(match self.rng.below(8) {
+                        0 => Planned::Blank,
+                        1 => self.slip(),
+                        _ => Planned::Any,
+                    });
+                }
+                plan.push(commit());
+                match self.rng.below(4) {
+                    0 => plan.push(commit()),
+                    1 => plan.extend([begin(), Planned::Any, commit()]),
+                    2 => plan.push(self.held_pattern(server, slot)),
+                    _ => {}
+                }
+            }
+        }
+        plan
+    }
+
+    /// A message that is refused in a transaction with 100, 101 or 103.
+    fn slip(&mut self) -> Planned {
+        match self.rng.below(6) {
+            0..=1 => Planned::Command(Command::Begin),
+            2 => Planned::Raw(b"COMMIT x\n".to_vec()),
+            _ => Planned::Bad,
+        }
+    }
+
+    /// A text client's queue with just as much room as the ERROR of a slip charges, or a byte
+    /// less; then the slip and another one.
+    fn plan_of_a_full_queue(&mut self) -> Vec<Planned> {
+        let begin = || Planned::Command(Command::Begin);
+        let (charge, slip) = match self.rng.below(3) {
+            0 => (33, Planned::Raw(b"XX\n".to_vec())),
+            1 => (31, Planned::Raw(b"SUB **\n".to_vec())),
+            _ => (27, begin()),
+        };
+        let free = Some(charge - self.rng.below(2));
+        let mut plan = vec![Planned::FillQueue { free }];
+        if charge == 27 || self.rng.chance(50) {
+            plan.push(begin());
+        }
+        plan.extend([slip, self.slip()]);
+        plan
+    }
+
     fn limit_plan(&mut self, server: &Server, slot: usize) -> Vec<Planned> {
         let over = self.rng.chance(50);
         let commit = || Planned::Command(Command::Commit);
@@ -442,7 +569,8 @@ impl Generator {
         let mut plan = Vec::new();
         match self.rng.below(12) {
             0 => {
-                plan.push(Planned::FillQueue { over });
+                let free = (!over).then_some(0);
+                plan.push(Planned::FillQueue { free });
                 plan.push(ping());
             }
             1 => {

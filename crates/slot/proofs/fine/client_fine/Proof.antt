@@ -26,7 +26,7 @@ shared-slice-read-if2 c = search needs
 -- src/fine.rt:52:9
 returns-2 : tie.Need-returns-2
 unfolding clientFine
-returns-2 c = rw (le-leb (phaseOf (c .before .before .before .before .before .args .s .now)) 2 (c .before .before .if1 .left), lt-leb (kindByte (c .before .before .before .before .before .args .s .now)) 3 (c .if2 .taken))
+returns-2 c = rw (le-leb (phaseOf (c .before .before .before .before .before .args .s .now)) 2 (c .before .before .if1 .left), lt-leb (kindByte (c .before .before .before .before .before .args .s .now)) 7 (c .if2 .taken))
 
 -- src/fine.rt:54:9
 regions-fine-requires : tie.Need-regions-fine-requires
@@ -36,7 +36,7 @@ regions-fine-requires c κs = search needs
 returns-3 : tie.Need-returns-3
 unfolding clientFine
 returns-3 c =
-    rw (le-leb (phaseOf (c .before .before .before .before .before .before .before .args .s .now)) 2 (c .before .before .before .before .if1 .left), le-leb (kindByte (c .before .before .before .before .before .before .before .args .s .now)) 3 (c .before .before .if2 .left), sym (c .before .regions-fine .ensures) ∙ not-true (c .before .regions-fine .result) (c .if3 .taken))
+    rw (le-leb (phaseOf (c .before .before .before .before .before .before .before .args .s .now)) 2 (c .before .before .before .before .if1 .left), le-leb (kindByte (c .before .before .before .before .before .before .before .args .s .now)) 7 (c .before .before .if2 .left), sym (c .before .regions-fine .ensures) ∙ not-true (c .before .regions-fine .result) (c .if3 .taken))
 
 -- src/fine.rt:57:8
 shared-slice-read-if4 : tie.Need-shared-slice-read-if4
@@ -50,13 +50,13 @@ is-bare-requires c κs = regions-regioned (c .before .before .before .before .be
 returns-4 : tie.Need-returns-4
 unfolding clientFine
 returns-4 c =
-    rw (le-leb (phaseOf (c .before .before .before .before .before .before .before .before .before .before .args .s .now)) 2 (c .before .before .before .before .before .before .before .if1 .left), le-leb (kindByte (c .before .before .before .before .before .before .before .before .before .before .args .s .now)) 3 (c .before .before .before .before .before .if2 .left), sym (c .before .before .before .before .regions-fine .ensures) ∙ not-false (c .before .before .before .before .regions-fine .result) (c .before .before .before .if3 .left), eq-eqb (phaseOf (c .before .before .before .before .before .before .before .before .before .before .args .s .now)) 2 (c .before .if4 .taken)) (c .is-bare .ensures)
+    rw (le-leb (phaseOf (c .before .before .before .before .before .before .before .before .before .before .args .s .now)) 2 (c .before .before .before .before .before .before .before .if1 .left), le-leb (kindByte (c .before .before .before .before .before .before .before .before .before .before .args .s .now)) 7 (c .before .before .before .before .before .if2 .left), sym (c .before .before .before .before .regions-fine .ensures) ∙ not-false (c .before .before .before .before .regions-fine .result) (c .before .before .before .if3 .left), eq-eqb (phaseOf (c .before .before .before .before .before .before .before .before .before .before .args .s .now)) 2 (c .before .if4 .taken)) (c .is-bare .ensures)
 
 -- src/fine.rt:44:1
 returns-5 : tie.Need-returns-5
 unfolding clientFine
 returns-5 c =
-    rw (le-leb (phaseOf (c .before .before .before .before .before .before .before .before .before .args .s .now)) 2 (c .before .before .before .before .before .before .if1 .left), le-leb (kindByte (c .before .before .before .before .before .before .before .before .before .args .s .now)) 3 (c .before .before .before .before .if2 .left), sym (c .before .before .before .regions-fine .ensures) ∙ not-false (c .before .before .before .regions-fine .result) (c .before .before .if3 .left), ne-eqb (phaseOf (c .before .before .before .before .before .before .before .before .before .args .s .now)) 2 (c .if4 .left))
+    rw (le-leb (phaseOf (c .before .before .before .before .before .before .before .before .before .args .s .now)) 2 (c .before .before .before .before .before .before .if1 .left), le-leb (kindByte (c .before .before .before .before .before .before .before .before .before .args .s .now)) 7 (c .before .before .before .before .if2 .left), sym (c .before .before .before .regions-fine .ensures) ∙ not-false (c .before .before .before .regions-fine .result) (c .before .before .if3 .left), ne-eqb (phaseOf (c .before .before .before .before .before .before .before .before .before .args .s .now)) 2 (c .if4 .left))
 
 pub client-fine-spec : {M : Type 1} → statement M
 client-fine-spec =

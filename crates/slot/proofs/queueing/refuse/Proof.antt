@@ -12,7 +12,7 @@ use Rattle.slot.proofs.queueing.refuse.Statement.{statement}
 use Rattle.slot.proofs.queueing.refuse.Tie as tie
 use Rattle.slot.proofs.queueing.refuse.Reads as reads
 use Rattle.slot.proofs.queueing.refuse.Lts as lts
-use Rattle.queue.proofs.shut_with.Reads as shut-with-reads
+use Rattle.queue.proofs.put_error.Reads as put-error-reads
 use Rattle.slot.proofs.kind.Reads as kind-reads
 use Rattle.slot.proofs.strip.Reads as strip-reads
 
@@ -39,26 +39,26 @@ strip-requires c κs =
     record { record-room = record-room (c .before .before .before .before .pre .rules); enough = omega (arith, length-set (c .before .before .before .before .args .s .now) 0 2, c .before .before .before .before .pre .rules .sized) }
 
 -- src/queueing.rt:56:29
-add-shut-with : tie.Need-add-shut-with
-add-shut-with c = search needs
+add-put-error : tie.Need-add-put-error
+add-put-error c = search needs
 
 -- src/queueing.rt:56:22
-sub-shut-with : tie.Need-sub-shut-with
-sub-shut-with c = omega (arith, enough (c .before .before))
+sub-put-error : tie.Need-sub-put-error
+sub-put-error c = omega (arith, enough (c .before .before))
 
 -- src/queueing.rt:56:22
-part-shut-with-start : tie.Need-part-shut-with-start
-part-shut-with-start c =
+part-put-error-start : tie.Need-part-put-error-start
+part-put-error-start c =
     let h = enough (c .before .before) in
     search needs
 
 -- src/queueing.rt:56:22
-part-shut-with-end : tie.Need-part-shut-with-end
-part-shut-with-end c = search needs
+part-put-error-end : tie.Need-part-put-error-end
+part-put-error-end c = search needs
 
 -- src/queueing.rt:56:5
-shut-with-requires : tie.Need-shut-with-requires
-shut-with-requires c κs =
+put-error-requires : tie.Need-put-error-requires
+put-error-requires c κs =
     rw (lent-queue (c .before .before .before .before .before .before .before .before .args .r) (c .before .before .before .strip .last .0), same-queue (c .before .before .before)) (open-queue (c .before .before .before .before .before .before .before .before .pre))
 
 -- src/queueing.rt:49:1
@@ -72,8 +72,9 @@ returns : tie.Need-returns
 returns c =
     let A = c .before .before .before .before .before .before .before .before .before .before .before .args in
     let t = c .before .before .before .before .before .before .strip .last .0 in
-    let v = c .before .before .shut-with .last .0 in
-    let b = rw (lent-queue (A .r) t, c .before .before .before .before .before .before .before .before .kind .ensures) at (c .before .before .shut-with .ensures) in
+    let v = c .before .before .put-error .last .0 in
+    let k = c .before .before .before .before .before .before .before .before .kind .ensures in
+    let b = rw (lent-queue (A .r) t, k) at (c .before .before .put-error .ensures) in
     rw (back-queue (A .r) t v (omega (arith, enough (c .before .before .before .before .before .before))) (b .size))
     (becomes-refused (A .refusal) (c .before .before .before .before .before .before .before .before .before .before .before .pre) (c .before .before .before .before .before .before .strip .ensures) b)
 
@@ -84,10 +85,10 @@ refuse-spec =
     kind-requires
     slice-write-s
     strip-requires
-    add-shut-with
-    sub-shut-with
-    part-shut-with-start
-    part-shut-with-end
-    shut-with-requires
+    add-put-error
+    sub-put-error
+    part-put-error-start
+    part-put-error-end
+    put-error-requires
     same-length
     returns)

@@ -1,5 +1,6 @@
 use super::*;
 use crate::options::{Limits, UnixRights};
+use infod3::Form;
 use std::os::unix::ffi::OsStringExt;
 use std::time::Duration;
 
@@ -86,8 +87,8 @@ fn with_equals(line: &str) -> String {
 
 #[test]
 fn each_listener_has_its_own_words() {
-    let line = "--unix a --tcp 127.0.0.1:1,read-only,reserve=3 --tcp 127.0.0.1:2 \
-                --unix b,,c,read-write,mode=0666,owner=3:4,longest-key=0 \
+    let line = "--unix a --tcp 127.0.0.1:1,read-only,reserve=3 --tcp 127.0.0.1:2,hang-up \
+                --unix b,,c,hang-up,read-write,mode=0666,owner=3:4,longest-key=0 \
                 --seqpacket d,longest-message=9,longest-pattern=7,longest-transaction=6,reserve=1 --read-only-unix --reserve-tcp 2 \
                 --longest-key 5 --unix-mode 0640 --unix-owner :8";
     let options = options(line).unwrap();
@@ -99,6 +100,10 @@ fn each_listener_has_its_own_words() {
     assert_eq!((one.access, one.reserve), (Access::ReadOnly, 3));
     assert_eq!((two.access, two.reserve), (Access::Full, 2));
     assert_eq!(b.place, Place::Unix("b,c".into()));
+    let hang_up: Vec<bool> = options.listeners.iter().map(|l| l.hang_up).collect();
+    assert_eq!(hang_up, [false, false, true, true, false]);
+    let forms = [Form::Stream, Form::StreamHangUp, Form::Packets];
+    assert_eq!([a, b, d].map(ListenerOptions::form), forms);
     let (uid, gid, mode) = (Some(3), Some(4), 0o666);
     assert_eq!(b.rights, UnixRights { mode, uid, gid });
     assert_eq!((b.access, b.limits), (Access::Full, Limits::NONE));
@@ -121,6 +126,8 @@ fn a_misspelt_word_is_never_part_of_a_path() {
         " read-only",
         "mode",
         "reserve",
+        "hangup",
+        "hang-up=1",
         "x",
     ] {
         let value = format!("--unix=/tmp/a,{word}");
@@ -133,6 +140,11 @@ fn a_misspelt_word_is_never_part_of_a_path() {
     start("--tcp 127.0.0.1:1,owner=root", "--tcp: a port has no file");
     start("--tcp ,read-only", "--tcp wants a place to listen at");
     start("--unix=", "--unix wants a place to listen at");
+    start(
+        "--seqpacket a,hang-up",
+        "--seqpacket: hang-up is for text lines; with packets every refusal closes the client",
+    );
+    start("--unix a,hang-up,hang-up", "--unix: hang-up stands behind");
     start(
         "--unix a,read-only,read-write",
         "--unix: read-write stands behind",

@@ -1,5 +1,7 @@
 //! What a run has reached: the answers of each call, the messages of each form, and the
-//! situations that the generator aims at.
+//! situations that the generator aims at. Those of typing errors are in [`slips`].
+
+mod slips;
 
 use std::collections::BTreeMap;
 
@@ -10,6 +12,7 @@ use reference::store::ENTRY_LIMIT;
 use reference::{Reply, Server};
 
 use crate::pair::{Call, Pair};
+use slips::{Idle, Left, Stage};
 
 /// Every answer that each call can give.
 const ANSWERS: [(&str, &[u32]); 5] = [
@@ -104,23 +107,38 @@ const SITUATIONS: [&str; 68] = [
     "set up of memory in use",
 ];
 
+/// All situations.
+fn situations() -> impl Iterator<Item = &'static str> {
+    SITUATIONS.into_iter().chain(slips::SITUATIONS)
+}
+
 #[derive(Default)]
 pub struct Observed {
     answers: BTreeMap<(&'static str, u32), u64>,
     messages: BTreeMap<(&'static str, &'static str), u64>,
     situations: BTreeMap<&'static str, u64>,
-    /// Slots whose last client held patterns when it was closed.
-    had_patterns: Vec<usize>,
+    /// What the last client of a slot left behind when it was closed.
+    left: BTreeMap<usize, Left>,
+    /// What the commands in a spoiled transaction would have come to if they were recorded.
+    idle: BTreeMap<usize, Idle>,
+    /// Slots whose last message was the COMMIT of a spoiled transaction.
+    ended: Vec<usize>,
 }
 
 /// What is noted before a call; all but `is_used` of feeds and closes only.
 #[derive(Default)]
 pub struct Before {
     kind: Option<Kind>,
+    hangs_up: bool,
     command: Option<Command>,
+    /// The refusal by what the first message says, in no matter which state.
+    refusal: Option<u32>,
     /// Whether the first message is a blank line.
     is_blank: bool,
+    stage: Stage,
     recording: Option<Recorded>,
+    /// What the client's queue charges.
+    charge: usize,
     patterns: usize,
     /// Whether the pattern of a SUB or UNSUB is held.
     is_held: bool,
@@ -158,7 +176,10 @@ fn queue_lengths(server: &Server, n: usize) -> Vec<usize> {
 
 impl Observed {
     fn note(&mut self, situation: &'static str, reached: bool) {
-        debug_assert!(SITUATIONS.contains(&situation), "{situation} is listed");
+        debug_assert!(
+            situations().any(|listed| listed == situation),
+            "{situation} is listed"
+        );
         if reached {
             *self.situations.entry(situation).or_default() += 1;
         }
@@ -178,13 +199,16 @@ impl Observed {
         let Some(client) = server.client(slot) else {
             return before;
         };
+        before.kind = Some(client.kind());
+        before.hangs_up = client.hangs_up();
+        before.stage = Stage::of(client);
+        before.charge = client.queued();
         before.patterns = client.patterns().len();
         before.shut = shut_slots(server, pair.sizes.n);
         before.queued = queue_lengths(server, pair.sizes.n);
         let Call::Feed { input, .. } = call else {
             return before;
         };
-        before.kind = Some(client.kind());
         before.recording = client.recording().map(|recording| Recorded {
             count: recording.count(),
             used: recording.used(),
@@ -200,7 +224,10 @@ impl Observed {
         if let Some((message, _)) = reading::cut(client.kind().of_input(input), input) {
             before.is_blank = matches!(message, Message::Line(line)
                 if line.iter().all(|&byte| byte == b' '));
-            before.command = reading::decode(message).ok().flatten();
+            match reading::decode(message) {
+                Ok(command) => before.command = command,
+                Err(refusal) => before.refusal = Some(refusal),
+            }
         }
         match &before.command {
             Some(Command::Sub(pattern) | Command::Unsub(pattern)) => {
@@ -229,12 +256,20 @@ impl Observed {
         match call {
             Call::SetUp(_) => {
                 self.note("set up of memory in use", done && before.is_used);
-                self.had_patterns.clear();
+                if done {
+                    self.left.clear();
+                    self.idle.clear();
+                    self.ended.clear();
+                }
             }
-            Call::Open { slot, .. } if done => {
-                let had_patterns = self.had_patterns.contains(slot);
-                self.note("reopened slot that had patterns", had_patterns);
-                self.had_patterns.retain(|had| had != slot);
+            Call::Open { form, slot } if done => self.note_open(*slot, *form),
+            Call::Open { form, .. } => {
+                let is_refused = reply.answer == 8;
+                self.note("open in form 3 refused", is_refused && *form == 3);
+                self.note(
+                    "open in a form above 255 refused",
+                    is_refused && *form > 255,
+                );
             }
             Call::Take { slot, .. } => {
                 if let Some(client) = pair.reference.client(*slot) {
@@ -248,9 +283,15 @@ impl Observed {
             Call::Close { slot } if done => {
                 self.note("close of a client with messages", before.queued[*slot] > 0);
                 self.note("close of a shut client", before.shut.contains(slot));
-                if before.patterns > 0 {
-                    self.had_patterns.push(*slot);
-                }
+                let left = Left {
+                    is_stream: before.kind != Some(Kind::Packets),
+                    hangs_up: before.hangs_up,
+                    has_patterns: before.patterns > 0,
+                    stage: before.stage,
+                };
+                self.left.insert(*slot, left);
+                self.idle.remove(slot);
+                self.ended.retain(|ended| ended != slot);
             }
             Call::Feed { slot, input } => self.note_feed(*slot, input, &before, reply, pair),
             _ => {}
@@ -316,6 +357,11 @@ impl Observed {
             before.is_blank && is_recording,
         );
         self.note("refused while recording", refused && is_recording);
+        if refused {
+            self.note_refusal(slot, before, reply.answer, pair);
+            self.note_refused_line(input, before, is_over_long);
+        }
+        self.note_transaction(slot, before, client);
         match &before.command {
             None if reply.answer == 102 && !is_over_long => {
                 let is_pattern = names_a_pattern(client.kind(), input);
@@ -360,6 +406,10 @@ impl Observed {
         pair: &Pair,
     ) {
         let refused = answer == 102;
+        if before.stage == Stage::Spoiled {
+            self.note_idle(slot, command, before, pair);
+            return;
+        }
         match (command, before.recording) {
             (Command::Begin, Some(recording)) => {
                 let is_last = recording.count == RECORDED_LIMIT;
@@ -545,8 +595,8 @@ impl Observed {
                 .map(|name| format!("{name} as a {form}"));
             missing.extend(names);
         }
-        let never = |name: &&&'static str| !self.situations.contains_key(**name);
-        missing.extend(SITUATIONS.iter().filter(never).map(|name| name.to_string()));
+        let never = |name: &&'static str| !self.situations.contains_key(*name);
+        missing.extend(situations().filter(never).map(str::to_string));
         missing
     }
 }

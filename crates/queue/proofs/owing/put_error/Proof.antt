@@ -11,10 +11,10 @@ use Rattle.message.proofs.Theorems.{error-fits}
 use Rattle.queue.specs.Region.{head, pendingEnd, room}
 use Rattle.queue.proofs.Regions.{in-step-less}
 use Rattle.queue.proofs.Messages.{written-length}
-use Rattle.queue.proofs.Steps.{isOverflown-appended, shutting}
+use Rattle.queue.proofs.Steps.{isOverflown-appended, putting-error}
 use borrow.Author.Needs.{needs}
-use Rattle.queue.proofs.owing.shut_with.Statement.{statement}
-use Rattle.queue.proofs.owing.shut_with.Tie as tie
+use Rattle.queue.proofs.owing.put_error.Statement.{statement}
+use Rattle.queue.proofs.owing.put_error.Tie as tie
 
 -- the ERROR's length
 length-is : (c : tie.After-written-length) → (
@@ -84,11 +84,11 @@ returns c =
     let d = c₃ .drop-pending in
     let a = c₂ .append in
     let s = c₁ .settle in
-    shutting (A .kind) (A .refusal) (A .q .now) (d .last .0) (a .last .0) (s .last .0) w (c₅ .pre)
-    (short c₄) (d .ensures) (a .ensures) (s .ensures)
+    putting-error (A .kind) (A .refusal) (A .q .now) (d .last .0) (a .last .0) (s .last .0) w (c₅ .pre)
+    (short c₄) (length-is c₄) (d .ensures) (a .ensures) (s .ensures)
 
-pub shut-with-spec : {M : Type 1} → statement M
-shut-with-spec =
+pub put-error-spec : {M : Type 1} → statement M
+put-error-spec =
     tie.close
     (tie.spec
     (λ c. search needs)

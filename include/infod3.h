@@ -88,12 +88,20 @@ infod3_reply infod3_open(uint8_t *mem, size_t mem_len, size_t slot, size_t form)
  * more input after a 1. The answer is 0 also where the message's own messages did not fit in the
  * client's queue, so that it was shut: take then gives the ERROR, behind what was queued before.
  *
- * A refusal with 100, 101 or 103 is a slip of a text client of form 1. Its ERROR is queued like any
+ * The first byte of a stream decides: 0x0A, 0x0D, 0x20 and 0x40 to 0x7E mean text lines, all else means
+ * frames. CR and LF each end a line; its word goes from the first byte that is no space to the next space
+ * or the line's end. The words of text commands, in letters of either case, each with the letter that will
+ * do and its ID: HELLO (no letter) 0, SUB s 1, UNSUB u 2, READ r 3, WRITE w 4, BEGIN b 5, COMMIT c 6, PING
+ * p 7. Any other word is 100. So is any other ID of a packet or a frame; a wrong, missing or surplus field
+ * of a known command is 101.
+ *
+ * Of a text client of form 1 a refusal with 100, 101 or 103 is a slip. Its ERROR is queued like any
  * message, which takes its length and 4 bytes more of the queue, and the client stays open; but where it
  * does not fit in q less 64 beside what the queue holds, the client is shut with 102 instead, and 102 is
- * the answer. A slip inside a transaction spoils it, and what was recorded is dropped. From then on
- * commands that would be recorded get 0 and do nothing, those that are refused with 100 to 102 are so as
- * ever (`COMMIT x` is 101), a BEGIN is 103, and a COMMIT is 103, does nothing and ends the transaction. */
+ * the answer. A slip inside a transaction spoils it, a BEGIN there too, and what was recorded is dropped.
+ * From then on commands that would be recorded get 0 and do nothing, however many they are; those whose
+ * own form is refused with 100 to 102 are so as ever (`COMMIT x` is 101), a BEGIN is 103, and a COMMIT is
+ * 103, does nothing and ends the transaction. */
 infod3_reply infod3_feed(uint8_t *mem, size_t mem_len, size_t slot, const uint8_t *input,
                          size_t input_len);
 

@@ -17,7 +17,7 @@ use Rattle.text.specs.Fields.{Field, plain, inQuotes, word, afterWord, trim, st
 use Rattle.text.specs.Fields as Text
 use Rattle.text.specs.Payload.{version, byCount, keyed, payloadFor}
 use Rattle.text.specs.Payload as Payload
-use Rattle.text.specs.Words.{lower, lookUp, idOf}
+use Rattle.words.specs.Words.{lower, lookUp, idOf}
 use Rattle.command.specs.Refusals.{isBad}
 use Rattle.message.specs.Quoting.{decimal}
 use Rattle.message.specs.Rows.{Row, table, rowIn, rowOf}

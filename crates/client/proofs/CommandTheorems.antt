@@ -20,7 +20,7 @@ use Rattle.protocol.specs.declared.Refusal.the-variants.{Unknown, Parameter, Ro
 use Rattle.protocol.specs.Terms.{number, whole}
 use Rattle.framing.specs.Framing.{startsText, kindOf, endsLine, lineEnd, lineLength, lengthOf, messageLength}
 use Rattle.text.specs.Fields.{word, afterWord, trim}
-use Rattle.text.specs.Words.{idOf}
+use Rattle.words.specs.Words.{idOf}
 use Rattle.text.specs.Line.{message, payloadOf, begun, lineOf, ofId}
 use Rattle.command.specs.Meaning.{readingOf}
 use Rattle.command.specs.Refusals.{verdict}

@@ -17,7 +17,7 @@ use Rattle.pattern.specs.Tree.{branches, above, onFirst, onSeq, grow, tree, fir
 use Rattle.pattern.specs.Matching as Matching
 use Rattle.pattern.specs.Answer.{outcome, whole, tooLong, accepted}
 use Rattle.framing.specs.Framing.{startsText, kindOf, endsLine, lineEnd, lineLength, frameLength, lengthOf}
-use Rattle.text.specs.Words.{lower, lookUp, idOf}
+use Rattle.words.specs.Words.{lower, lookUp, idOf}
 use Rattle.text.specs.Fields.{trim, word, afterWord, octal, onto, closed, quoted, escaped, starting, next, fields}
 use Rattle.text.specs.Payload.{decimal, allDigits, numberFrom, version, keyed, byCount, payloadFor}
 use Rattle.text.specs.Line.{payloadOf, begun, lineOf}

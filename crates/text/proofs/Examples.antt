@@ -6,7 +6,7 @@ use Prim.Native.String.{String}
 use Rattle.octets.specs.Octets.{ascii, hasNul}
 use Rattle.octets.specs.Order.{same}
 use Rattle.protocol.specs.declared.Refusal.the-variants.{Unknown, Parameter}
-use Rattle.text.specs.Words.{lower, lookUp, idOf}
+use Rattle.words.specs.Words.{lower, lookUp, idOf}
 use Rattle.text.specs.Fields.{trim, word, afterWord, octal, onto, closed, quoted, escaped, starting, next}
 use Rattle.text.specs.Fields.{fields}
 use Rattle.text.specs.Payload.{decimal, allDigits, numberFrom, version, keyed, byCount, payloadFor}
@@ -60,6 +60,7 @@ commands =
     ∷ ("PING\"x\"", refused Unknown)
     ∷ ("HELP", refused Unknown)
     ∷ ("h 1", refused Unknown)
+    ∷ ("commit x", refused Parameter)
     ∷ ("nope \"", refused Unknown)
     ∷ ("p a b", refused Parameter)
     ∷ ("p a b \"", refused Parameter)

@@ -11,7 +11,7 @@ use lib.Dec.{eqb}
 use lib.ListN.{length, length-append}
 use Rattle.octets.specs.Octets.{Bytes, ascii, hasNul}
 use Rattle.octets.specs.Order.{same}
-use Rattle.text.specs.Words.{idOf, lookUp}
+use Rattle.words.specs.Words.{idOf, lookUp}
 use Rattle.text.specs.Fields.{trim, word, afterWord, octal, Scan, malformed, scanned, onto, closed, quoted}
 use Rattle.text.specs.Fields.{escaped, Field, plain, bytesOf, Next, ended, faulty, field, ofScan, starting}
 use Rattle.text.specs.Fields.{next, followed, fields}

@@ -20,9 +20,9 @@ use Rattle.text.specs.declared.payloads.Built.the-variants.{Payload, Fau
 use Rattle.text.specs.declared.Translated.{Translated}
 use Rattle.text.specs.declared.Translated.the-variants.{Refused}
 use Rattle.protocol.specs.declared.Refusal.the-variants.{Unknown, Parameter}
-use Rattle.text.specs.Words.{idOf}
-use Rattle.text.specs.Table.{namedOf}
-use Rattle.text.specs.declared.words.Named.the-variants.{Id, Unknown as NoId}
+use Rattle.words.specs.Words.{idOf}
+use Rattle.words.specs.Table.{namedOf}
+use Rattle.words.specs.declared.Named.the-variants.{Id, Unknown as NoId}
 
 -- ---- payloads by ID
 

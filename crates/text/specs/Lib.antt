@@ -1,5 +1,3 @@
-pub mod Words
-pub mod Table
 pub mod Fields
 pub mod Payload
 pub mod Line

@@ -1,12 +1,13 @@
 -- A text line as a message: its ID and its payload in binary form (document 01, "From bytes to one command", Text). A
 -- line is given without its ending byte.
+use mathlib.Core.Path.{_≡_}
 use mathlib.Core.List.{List, [], _∷_}
 use mathlib.Core.Option.{Option, none, some}
 use Prim.Native.Nat.{ℕ}
 use Rattle.octets.specs.Octets.{Bytes}
 use Rattle.protocol.specs.declared.Refusal.{Refusal}
 use Rattle.protocol.specs.declared.Refusal.the-variants.{Unknown, Parameter}
-use Rattle.text.specs.Words.{idOf}
+use Rattle.words.specs.Words.{idOf, Gives}
 use Rattle.text.specs.Fields.{trim, word, afterWord, Field, fields}
 use Rattle.text.specs.Payload.{payloadFor}
 
@@ -43,3 +44,8 @@ begun (c ∷ s) = ofId (idOf (word (c ∷ s))) (afterWord (c ∷ s))
 -- a line that is empty or of spaces only is blank
 unfoldable pub lineOf : Bytes → Line
 lineOf s = begun (trim s)
+
+-- the line is not blank, and its word gives an ID, or none
+pub record Worded (s : Bytes) (o : Option ℕ) : Type 0 where
+  pub begins : trim s ≡ [] → ⊥
+  pub gives : Gives (word (trim s)) o

@@ -6,7 +6,7 @@ use Prim.Native.Nat.{ℕ}
 use lib.ListN.{length}
 use lib.Seq.{sets}
 use Rattle.octets.specs.Octets.{Bytes}
-use Rattle.text.specs.Words.{idOf}
+use Rattle.words.specs.Words.{idOf}
 use Rattle.text.specs.Fields.{trim, word, afterWord, next}
 use Rattle.text.specs.Line.{Line, blank, refused, message}
 use Rattle.text.specs.PayloadPost.{stores}

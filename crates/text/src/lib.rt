@@ -3,7 +3,6 @@
 // longer than the line, so a buffer as long as the line holds it whole.
 mod fields;
 mod payloads;
-mod words;
 
 pub use fields::Char;
 pub use fields::Octal;

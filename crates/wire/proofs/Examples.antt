@@ -16,7 +16,7 @@ use Rattle.protocol.specs.Terms as Terms
 use Rattle.pattern.specs.Tokens.{single, tokens}
 use Rattle.pattern.specs.Syntax.{valid, fits, starFits}
 use Rattle.framing.specs.Framing.{startsText, kindOf, endsLine, lineEnd, lineLength, frameLength, lengthOf}
-use Rattle.text.specs.Words.{lower, lookUp, idOf}
+use Rattle.words.specs.Words.{lower, lookUp, idOf}
 use Rattle.text.specs.Fields.{trim, word, afterWord, octal, onto, closed, quoted, escaped, starting, next, fields}
 use Rattle.text.specs.Payload.{decimal, allDigits, numberFrom, version, keyed, byCount, payloadFor}
 use Rattle.text.specs.Line.{payloadOf, begun, lineOf}

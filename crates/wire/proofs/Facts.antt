@@ -1,30 +1,28 @@
 -- What holds of every message that is read: commands are sound, lengths are within the input, a kind once fixed
 -- stays.
-use mathlib.Core.Path.{_≡_, refl, ap, _∙_}
+use mathlib.Core.Path.{_≡_, refl}
 use mathlib.Core.List.{[], _∷_}
 use mathlib.Core.Bool.{Bool, true, false, cond}
 use mathlib.Core.Option.{Option}
 use mathlib.Core.Logic.{inl, inr}
-use Prim.Native.Nat.{ℕ, zero, suc, _+_, _-_, _≤_, _<_}
+use Prim.Native.Nat.{ℕ, _≤_, _<_}
 use native.Mathlib.Omega.{arith}
-use lib.ListN.{length, take, getD}
-use lib.Seq.{length-take-le, getD-take}
-use borrow.Author.Tests.{ltb-true, lt-ltb, le-leb}
+use lib.ListN.{length}
+use borrow.Author.Tests.{ltb-true}
 use Rattle.octets.specs.Octets.{Bytes, hasNul}
 use Rattle.protocol.specs.declared.Kind.{Kind}
 use Rattle.protocol.specs.declared.Kind.the-variants.{Packets, Stream, Framed, Text}
-use Rattle.protocol.specs.declared.Refusal.the-variants.{Room}
 use Rattle.protocol.specs.Terms.{Action, hello, sub, unsub, read, write, Reading, command, invalid, begin, commit}
 use Rattle.protocol.specs.Terms.{plain, payload, Cut, whole, incomplete}
 use Rattle.protocol.specs.Terms as Terms
-use Rattle.framing.specs.Framing.{startsText, kindOf, endsLine, lineEnd, lineLength, lengthOf, messageLength}
+use Rattle.framing.specs.Framing.{startsText, kindOf, lengthOf, messageLength}
 use Rattle.framing.specs.Framing as Framing
-use Rattle.framing.proofs.Laws.{lengthOf-le, lineEnd-length}
+use Rattle.framing.proofs.Laws.{lengthOf-le}
 use Rattle.text.specs.Line.{Line, blank, refused, message}
 use Rattle.command.specs.Sound.{GoodPattern, Fine, SoundReading}
 use Rattle.command.specs.Meaning.{readingOf}
 use Rattle.command.proofs.SoundLaws.{reading-sound}
-use Rattle.wire.specs.Received.{textLine, decodedIn, decoded, readingLine, reading, isWhole, received}
+use Rattle.wire.specs.Received.{decoded, readingLine, reading, isWhole, received}
 use Rattle.wire.specs.Verdict.{Fixes}
 
 -- ---- commands
@@ -146,37 +144,3 @@ received-says k s = by (isWhole k (messageLength k s))
 pub received-reading : (k : Kind) (s : Bytes) (n : ℕ) (l : Kind) (r : Reading) → received k s ≡ whole n l r
     → r ≡ reading k (Framing.message k s)
 received-reading k s n l r e = (rw e at (received-says k s)) .2
-
--- ---- an over-long line
-
-lineEnd-before : (s : Bytes) (i : ℕ) → i < lineEnd s → endsLine (getD s i 0) ≡ false
-unfolding lineEnd
-lineEnd-before [] i h = absurd (omega arith)
-lineEnd-before (c ∷ s) i h = by (endsLine c) refl i h (lineEnd-before s)
-  where
-    by : (b : Bool) → endsLine c ≡ b → (i : ℕ) → i < cond b 0 (lineEnd s + 1)
-        → ((j : ℕ) → j < lineEnd s → endsLine (getD s j 0) ≡ false) → endsLine (getD (c ∷ s) i 0) ≡ false
-    by true e i h f = absurd (omega arith)
-    by false e zero h f = e
-    by false e (suc i) h f = f i (omega arith)
-
--- n bytes without a line end
-no-end : (n : ℕ) (s : Bytes) → 0 < n → n ≤ lineEnd s → textLine (take n s) ≡ refused Room
-unfolding textLine
-no-end n s p h =
-    let l : length (take n s) ≡ n = length-take-le n s (omega (arith, lineEnd-length s)) in
-    let e : endsLine (getD (take n s) (n - 1) 0) ≡ false
-    = rw (getD-take n s (n - 1) 0 (omega arith)) (lineEnd-before s (n - 1) (omega arith)) in
-    rw (l, e)
-
-received-line : (n : ℕ) (s : Bytes) → lineLength s ≡ n → 0 < n
-    → received Text s ≡ whole n Text (readingLine (textLine (take n s)))
-unfolding received kindOf lengthOf decodedIn
-received-line n s e p = rw (e, lt-ltb 0 n p)
-
--- 262,152 bytes without a line end are no room, whatever they hold, and are consumed
-pub over-long : (s : Bytes) → 262152 ≤ lineEnd s → received Text s ≡ whole 262152 Text (invalid Room)
-unfolding lineLength
-over-long s h =
-    received-line 262152 s (rw (le-leb 262152 (lineEnd s) h)) (omega arith)
-    ∙ ap (λ (l : Line). whole 262152 Text (readingLine l)) (no-end 262152 s (omega arith) h)

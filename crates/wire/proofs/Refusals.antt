@@ -12,7 +12,7 @@ use Rattle.protocol.specs.declared.Kind.the-variants.{Packets, Stream, Framed, 
 use Rattle.protocol.specs.declared.Refusal.the-variants.{Unknown, Parameter, Room, State}
 use Rattle.protocol.specs.Terms.{invalid}
 use Rattle.framing.specs.Framing.{kindOf, endsLine}
-use Rattle.text.specs.Words.{idOf}
+use Rattle.words.specs.Words.{idOf}
 use Rattle.text.specs.Fields.{trim, word, afterWord}
 use Rattle.text.specs.Payload.{payloadFor}
 use Rattle.text.specs.Line.{Line, blank, refused, message, payloadOf, ofPayload, ofId, begun, lineOf}

@@ -1,5 +1,6 @@
 //! What the words of the arguments, or of a line, ask for.
 
+use infod3::Word;
 use infod3_cli::quote::field;
 use infod3_cli::Command;
 
@@ -66,8 +67,8 @@ fn line(words: &[Vec<u8>], stdin: bool) -> Result<Task<'_>, String> {
         return Err("line wants a COMMAND".to_owned());
     };
     match known(name) {
-        None | Some(("help" | "quit", _)) => Err(unknown(name, COMMANDS)),
-        Some(("write", _)) => Ok(match key_and_value(operands, stdin)? {
+        None | Some("HELP" | "QUIT") => Err(unknown(name, COMMANDS)),
+        Some("WRITE") => Ok(match key_and_value(operands, stdin)? {
             (key, Some(value)) => Task::Print(Command::Write(key, value)),
             (key, None) => Task::PrintInput(key),
         }),
@@ -103,44 +104,53 @@ impl Line<'_> {
         let Some((name, operands)) = fields.split_first() else {
             return Ok(Line::Empty);
         };
-        let (word, wanted) = known(name).ok_or_else(|| unknown(name, WORDS))?;
+        let word = known(name).ok_or_else(|| unknown(name, WORDS))?;
         let command = match (word, operands) {
-            ("read", [key]) => Command::Read(key),
-            ("write", [key, value]) => Command::Write(key, value),
-            ("delete", [key]) => Command::Delete(key),
-            ("sub", [pattern]) => Command::Sub(pattern),
-            ("unsub", [pattern]) => Command::Unsub(pattern),
-            ("begin", []) => Command::Begin,
-            ("commit", []) => Command::Commit,
-            ("ping", []) => Command::Ping(b""),
-            ("ping", [text]) => Command::Ping(text),
-            ("hello", []) => hello(b"0", b"")?,
-            ("hello", [version]) => hello(version, b"")?,
-            ("hello", [version, text]) => hello(version, text)?,
-            ("help", []) => return Ok(Line::Help),
-            ("quit", []) => return Ok(Line::Quit),
-            _ => return Err(wrong(name, operands, wanted)),
+            ("READ", [key]) => Command::Read(key),
+            ("WRITE", [key, value]) => Command::Write(key, value),
+            ("DELETE", [key]) => Command::Delete(key),
+            ("SUB", [pattern]) => Command::Sub(pattern),
+            ("UNSUB", [pattern]) => Command::Unsub(pattern),
+            ("BEGIN", []) => Command::Begin,
+            ("COMMIT", []) => Command::Commit,
+            ("PING", []) => Command::Ping(b""),
+            ("PING", [text]) => Command::Ping(text),
+            ("HELLO", []) => hello(b"0", b"")?,
+            ("HELLO", [version]) => hello(version, b"")?,
+            ("HELLO", [version, text]) => hello(version, text)?,
+            ("HELP", []) => return Ok(Line::Help),
+            ("QUIT", []) => return Ok(Line::Quit),
+            _ => return Err(wrong(name, operands, behind(word))),
         };
         Ok(Line::Send(command))
     }
 }
 
-/// The long name of a line's first word, in any case, and what may stand behind it.
-fn known(name: &[u8]) -> Option<(&'static str, &'static [&'static str])> {
+/// What a line's first word, in any case, asks for, in capitals: a word or letter of the protocol,
+/// or one of this client's own.
+fn known(name: &[u8]) -> Option<&'static str> {
+    if let Some(row) = Word::named(name) {
+        return Some(row.word);
+    }
     Some(match name.to_ascii_lowercase().as_slice() {
-        b"read" | b"r" => ("read", &["KEY"]),
-        b"write" | b"w" => ("write", &["KEY", "VALUE"]),
-        b"delete" | b"d" => ("delete", &["KEY"]),
-        b"sub" | b"s" | b"watch" => ("sub", &["PATTERN"]),
-        b"unsub" | b"u" => ("unsub", &["PATTERN"]),
-        b"begin" | b"b" => ("begin", &[]),
-        b"commit" | b"c" => ("commit", &[]),
-        b"ping" | b"p" => ("ping", &["TEXT"]),
-        b"hello" => ("hello", &["VERSION", "TEXT"]),
-        b"help" | b"h" | b"?" => ("help", &[]),
-        b"quit" | b"q" | b"exit" => ("quit", &[]),
+        b"delete" | b"d" => "DELETE",
+        b"watch" => "SUB",
+        b"help" | b"h" | b"?" => "HELP",
+        b"quit" | b"q" | b"exit" => "QUIT",
         _ => return None,
     })
+}
+
+/// What may stand behind such a word.
+fn behind(word: &str) -> &'static [&'static str] {
+    match word {
+        "READ" | "DELETE" => &["KEY"],
+        "WRITE" => &["KEY", "VALUE"],
+        "SUB" | "UNSUB" => &["PATTERN"],
+        "PING" => &["TEXT"],
+        "HELLO" => &["VERSION", "TEXT"],
+        _ => &[],
+    }
 }
 
 /// What a line may begin with.
@@ -191,6 +201,80 @@ mod tests {
 
     fn words(line: &str) -> Vec<Vec<u8>> {
         line.split_whitespace().map(|word| word.into()).collect()
+    }
+
+    #[test]
+    fn every_word_of_a_line() {
+        for row in &infod3::WORDS {
+            let word = row.word.to_ascii_lowercase();
+            let letter = row.letter.map(String::from);
+            for name in [Some(word), letter].into_iter().flatten() {
+                assert_eq!(known(name.as_bytes()), Some(row.word));
+                let capital = name.to_ascii_uppercase();
+                assert_eq!(known(capital.as_bytes()), Some(row.word));
+            }
+        }
+        let own = [
+            ("DELETE", "delete Delete d D"),
+            ("SUB", "watch WATCH"),
+            ("HELP", "help HELP h H ?"),
+            ("QUIT", "quit Quit q Q exit EXIT"),
+        ];
+        for (word, names) in own {
+            for name in words(names) {
+                assert_eq!(known(&name), Some(word));
+                assert_eq!(Word::named(&name), None, "the client's own alone");
+            }
+        }
+        for name in ["", "del", "line", "re", "reads", "\"read\"", "read\0", "e"] {
+            assert_eq!(known(name.as_bytes()), None, "{name}");
+        }
+    }
+
+    /// The words of a list in capitals, sorted.
+    fn listed(list: &str) -> Vec<String> {
+        let words = list.split(", ").flat_map(|part| part.split(" and "));
+        let mut words: Vec<_> = words.map(str::to_ascii_uppercase).collect();
+        words.sort_unstable();
+        words
+    }
+
+    /// The words of the protocol and these, in the same way.
+    fn protocol_and(own: &str) -> Vec<String> {
+        let protocol = infod3::WORDS.map(|row| row.word).join(", ");
+        listed(&format!("{protocol}, {own}"))
+    }
+
+    #[test]
+    fn lists_have_every_word() {
+        assert_eq!(listed(WORDS), protocol_and("delete, help, quit"));
+        assert_eq!(listed(COMMANDS), protocol_and("delete"));
+    }
+
+    #[test]
+    fn list_of_lines_has_every_word_with_its_fields() {
+        let (lettered, others) = LINES
+            .trim_end()
+            .split_once(" or\none of their first letters; ")
+            .expect("two sorts of words");
+        let lettered = lettered.split(", ").map(|shown| (shown, true));
+        let others = others.split(", ").map(|shown| (shown, false));
+        let mut all = Vec::new();
+        for (shown, has_letter) in lettered.chain(others) {
+            let mut fields = shown.split(' ');
+            let name = fields.next().unwrap_or_default().as_bytes();
+            let fields: Vec<_> = fields.map(|field| field.trim_matches(['[', ']'])).collect();
+            let word = known(name).expect("a word");
+            assert_eq!(behind(word), fields, "{shown}");
+            match Word::named(name) {
+                _ if has_letter => assert_eq!(known(&name[..1]), Some(word), "{shown}"),
+                Some(row) => assert_eq!(row.letter, None, "{shown}"),
+                None => {}
+            }
+            all.push(word.to_owned());
+        }
+        all.sort_unstable();
+        assert_eq!(all, protocol_and("delete, help, quit"));
     }
 
     #[test]

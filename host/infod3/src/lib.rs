@@ -40,6 +40,9 @@
 //! refusal shuts its client: the ERROR is the last message of its queue, every further feed is
 //! [`Error::Shut`], and all that is left to do is to take what is queued and close the slot.
 //!
+//! A line begins with one of eight words or their letters, in any case; [`WORDS`] is the table of
+//! them. Every other word is refused with 100.
+//!
 //! ```
 //! use infod3::{Broker, Error, Feed, Form, Refusal, Sizes};
 //!
@@ -129,8 +132,10 @@ mod layout;
 pub mod raw;
 mod sizes;
 mod view;
+mod words;
 
 pub use answer::{Error, Feed, Match, MatchError, Refusal};
 pub use broker::{matches, Broker, Form};
 pub use sizes::{Size, SizeError, Sizes};
 pub use view::View;
+pub use words::{Word, WORDS};

@@ -2,6 +2,7 @@
 //! what a message means.
 
 use crate::cut::Kind;
+use infod3::Word;
 
 /// The command that a message is, valid or not.
 #[derive(Clone, Copy, Debug, PartialEq, Eq)]
@@ -28,38 +29,39 @@ pub enum Command {
     Other,
 }
 
-/// The commands by their IDs, with their words and letters in text.
-const COMMANDS: [(Command, &[u8], &[u8]); 8] = [
-    (Command::Hello, b"HELLO", b""),
-    (Command::Sub, b"SUB", b"s"),
-    (Command::Unsub, b"UNSUB", b"u"),
-    (Command::Read, b"READ", b"r"),
-    (Command::Write, b"WRITE", b"w"),
-    (Command::Begin, b"BEGIN", b"b"),
-    (Command::Commit, b"COMMIT", b"c"),
-    (Command::Ping, b"PING", b"p"),
+/// The commands by their IDs.
+const BY_ID: [Command; 8] = [
+    Command::Hello,
+    Command::Sub,
+    Command::Unsub,
+    Command::Read,
+    Command::Write,
+    Command::Begin,
+    Command::Commit,
+    Command::Ping,
 ];
 
 impl Command {
     /// The command of a whole message.
     pub fn of(kind: Kind, message: &[u8]) -> Command {
-        let row = match kind {
+        let id = match kind {
             Kind::Text => return Command::of_line(message),
-            _ => message
-                .first()
-                .and_then(|&id| COMMANDS.get(usize::from(id))),
+            _ => message.first().copied(),
         };
-        row.map_or(Command::Other, |row| row.0)
+        id.map_or(Command::Other, Command::of_id)
     }
 
     fn of_line(line: &[u8]) -> Command {
         let word = word(skip_spaces(line));
-        let named = |name: &[u8]| word.eq_ignore_ascii_case(name) && !word.is_empty();
-        if named(b"HELP") {
+        if word.eq_ignore_ascii_case(b"HELP") {
             return Command::Help;
         }
-        let row = COMMANDS.iter().find(|row| named(row.1) || named(row.2));
-        row.map_or(Command::Other, |row| row.0)
+        Word::named(word).map_or(Command::Other, |row| Command::of_id(row.id))
+    }
+
+    fn of_id(id: u8) -> Command {
+        let command = BY_ID.get(usize::from(id)).copied();
+        command.unwrap_or(Command::Other)
     }
 
     /// Whether it may stand in a transaction that only asks for answers, its end included.
@@ -179,13 +181,16 @@ mod tests {
         ] {
             assert_eq!(text(line), Command::Other, "{line:?}");
         }
-        for (id, (command, word, letter)) in COMMANDS.iter().enumerate() {
-            assert_eq!(Command::of(Kind::Text, word), *command);
-            assert_eq!(Command::of(Kind::Framed, &[id as u8, 0, 0]), *command);
-            if !letter.is_empty() {
-                assert_eq!(Command::of(Kind::Text, letter), *command);
+        for row in &infod3::WORDS {
+            let command = text(row.word);
+            assert_eq!(format!("{command:?}").to_ascii_uppercase(), row.word);
+            assert_eq!(Command::of(Kind::Framed, &[row.id, 0, 0]), command);
+            assert_eq!(Command::of(Kind::Packets, &[row.id]), command);
+            if let Some(letter) = row.letter {
+                assert_eq!(text(&format!(" {letter} k\n")), command);
             }
         }
+        assert_eq!(Word::named(b"HELP"), None);
         assert_eq!(Command::of(Kind::Packets, b"\x04k"), Command::Write);
         assert_eq!(Command::of(Kind::Packets, b"HELP"), Command::Other);
         assert_eq!(Command::of(Kind::Packets, b""), Command::Other);

@@ -66,6 +66,32 @@ pub fn silent(seconds: u64) -> String {
 #[cfg(test)]
 mod tests {
     use super::*;
+    use infod3::WORDS;
+
+    /// The words of a row of the page with their letters, by the page's columns: the words in
+    /// capitals among their fields up to column 23, then the letters in four columns.
+    fn words_of(row: &str) -> Vec<(&str, Option<char>)> {
+        let is_word = |text: &&str| text.bytes().all(|byte| byte.is_ascii_uppercase());
+        let words: Vec<&str> = row[1..23].split_whitespace().filter(is_word).collect();
+        let letters: Vec<char> = row[23..27].chars().filter(|&c| c != ' ').collect();
+        let letters = match letters.len() {
+            0 => vec![None; words.len()],
+            _ => letters.into_iter().map(Some).collect(),
+        };
+        assert!(!words.is_empty() && words.len() == letters.len(), "{row}");
+        words.into_iter().zip(letters).collect()
+    }
+
+    #[test]
+    fn page_has_the_words_of_the_library() {
+        let rows = PAGE.lines().skip(1);
+        let rows = rows.take_while(|line| !line.starts_with("# Patterns:"));
+        let mut shown: Vec<_> = rows.flat_map(words_of).collect();
+        let mut known = WORDS.map(|row| (row.word, row.letter));
+        shown.sort_unstable();
+        known.sort_unstable();
+        assert_eq!(shown, known);
+    }
 
     #[test]
     fn every_line_is_marked_and_ended() {

@@ -1,10 +1,10 @@
--- `text::words::lower_of`: by the ends of the capitals.
+-- `words::lower_of`: by the ends of the capitals.
 use borrow.Author.Needs.{needs}
 use native.Mathlib.Omega.{arith}
 use borrow.Author.Tests.{le-leb, lt-leb}
-use Rattle.text.specs.Words.{lower}
-use Rattle.text.proofs.words.lower_of.Statement.{statement}
-use Rattle.text.proofs.words.lower_of.Tie as tie
+use Rattle.words.specs.Words.{lower}
+use Rattle.words.proofs.lower_of.Statement.{statement}
+use Rattle.words.proofs.lower_of.Tie as tie
 
 returns : tie.Need-returns
 unfolding lower

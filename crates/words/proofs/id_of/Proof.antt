@@ -1,15 +1,15 @@
--- `text::words::id_of`: no row before i names the word.
+-- `words::id_of`: no row before i names the word.
 use borrow.Author.Needs.{needs}
 use mathlib.Core.Path.{_≡_, sym, ap, _∙_}
 use mathlib.Core.List.{map}
 use Prim.Native.Nat.{_≤_, _-_}
 use native.Mathlib.Omega.{arith}
 use lib.ListN.{drop}
-use Rattle.text.specs.Words.{words, lower, lookUp, idOf}
-use Rattle.text.specs.Table.{namedOf}
-use Rattle.text.proofs.WordLaws.{lookUp-here, lookUp-on, lookUp-none, named-id, idOf-start}
-use Rattle.text.proofs.words.id_of.Statement.{statement}
-use Rattle.text.proofs.words.id_of.Tie as tie
+use Rattle.words.specs.Words.{words, lower, lookUp, idOf}
+use Rattle.words.specs.Table.{namedOf}
+use Rattle.words.proofs.Laws.{lookUp-here, lookUp-on, lookUp-none, named-id, idOf-start}
+use Rattle.words.proofs.id_of.Statement.{statement}
+use Rattle.words.proofs.id_of.Tie as tie
 
 abbrev Inv-loop : tie.InvT-loop
 Inv-loop w i₀ i = (i ≤ 8) × (idOf w ≡ lookUp (map lower w) (drop i words))
@@ -23,19 +23,18 @@ loop-holds c = (omega arith, idOf-start (c .before .args .w .now))
 returns : tie.Need-returns Inv-loop μ-loop
 returns c =
     let w = c .before .before .before .before .before .before .args .w .now in
-    let i = c .before .before .before .before .loop .i in
-    named-id w i (c .row-at .result) (c .row-at .ensures)
-    (c .before .before .before .before .loop .inv .1 ∙ lookUp-here (map lower w) i
-    (c .before .before .before .loop-test .taken)
+    let L = c .before .before .before .before .loop in
+    named-id (L .i) (c .row-at .result) (c .row-at .ensures) w
+    (L .inv .1 ∙ lookUp-here (map lower w) (L .i) (omega arith)
     (sym (c .before .before .is-named .ensures) ∙ c .before .if1 .taken))
 
 loop-again : tie.Need-loop-again Inv-loop μ-loop
 loop-again c =
     let w = c .before .before .before .before .before .args .w .now in
-    let i = c .before .before .before .loop .i in (
+    let L = c .before .before .before .loop in (
       omega arith,
-      c .before .before .before .loop .inv .1 ∙ lookUp-on (map lower w) i
-          (c .before .before .loop-test .taken) (sym (c .before .is-named .ensures) ∙ c .if1 .left),
+      L .inv .1
+          ∙ lookUp-on (map lower w) (L .i) (omega arith) (sym (c .before .is-named .ensures) ∙ c .if1 .left),
     )
 
 returns-2 : tie.Need-returns-2 Inv-loop μ-loop

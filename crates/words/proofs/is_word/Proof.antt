@@ -1,15 +1,15 @@
--- `text::words::is_word`: the first i bytes are those of the word.
+-- `words::is_word`: the first i bytes are those of the word.
 use borrow.Author.Needs.{needs}
 use native.Mathlib.Omega.{arith}
 use mathlib.Core.Path.{_≡_, refl, sym, _∙_}
 use mathlib.Core.List.{map}
 use Prim.Native.Nat.{_-_, _≤_}
 use lib.ListN.{length, drop}
-use Rattle.text.specs.Words.{lower}
+use Rattle.words.specs.Words.{lower}
 use Rattle.octets.specs.Order.{same}
-use Rattle.text.proofs.WordLaws.{not-word, word-no, word-yes, word-all}
-use Rattle.text.proofs.words.is_word.Statement.{statement}
-use Rattle.text.proofs.words.is_word.Tie as tie
+use Rattle.words.proofs.Laws.{not-word, word-no, word-yes, word-all}
+use Rattle.words.proofs.is_word.Statement.{statement}
+use Rattle.words.proofs.is_word.Tie as tie
 
 abbrev Inv-loop : tie.InvT-loop
 Inv-loop w name i₀ i = (i ≤ length w) × (length w ≡ length name) ×
@@ -17,6 +17,9 @@ Inv-loop w name i₀ i = (i ≤ length w) × (length w ≡ length name) ×
 
 abbrev μ-loop : tie.MeasureT-loop
 μ-loop w name i₀ i = length w - i
+
+loop-holds : tie.Need-loop-holds Inv-loop μ-loop
+loop-holds c = (omega arith, c .if1 .left, refl)
 
 returns-2 : tie.Need-returns-2 Inv-loop μ-loop
 returns-2 c =
@@ -49,7 +52,7 @@ is-word-spec =
     μ-loop
     (λ c. sym (not-word (c .before .before .before .args .w .now) (c .before .before .before .args .word .now)
     (c .if1 .taken)))
-    (λ c. (omega arith, c .if1 .left, refl))
+    loop-holds
     (λ c. search needs)
     (λ c κs. search needs)
     (λ c. search needs)

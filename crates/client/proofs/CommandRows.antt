@@ -7,7 +7,7 @@ use mathlib.Core.Option.{Option, some, none}
 use Prim.Native.Nat.{ℕ, zero, suc, _+_, _/_, _<_}
 use native.Mathlib.Omega.{arith}
 use lib.Dec.{eqb, ltb}
-use lib.ListN.{take, getD}
+use lib.ListN.{getD}
 use borrow.Author.Tests.{ne-eqb}
 use Rattle.octets.specs.Octets.{Bytes, ascii}
 use Rattle.octets.specs.Order.{same}
@@ -20,7 +20,7 @@ use Rattle.text.specs.Payload as Payload
 use Rattle.words.specs.Words.{lower, lookUp, idOf}
 use Rattle.command.specs.Refusals.{isBad}
 use Rattle.message.specs.Quoting.{decimal}
-use Rattle.message.specs.Rows.{Row, table, rowIn, rowOf}
+use Rattle.message.specs.Rows.{Row, table, commandRows, rowIn, rowOf}
 use Rattle.message.specs.Forms.{field, keyOf, valueOf, valueField, numberFields, ending}
 use Rattle.message.specs.Forms as Forms
 use Rattle.message.specs.declared.Shape.{Shape}
@@ -122,9 +122,6 @@ bare-read [] h b = refl
 bare-read (c ∷ p) h b = let z : _≡_ {A = ℕ} 0 1 = cc in absurd (omega arith)
 
 -- ---- the rows
-
-abbrev pub commandRows : List Row
-commandRows = take 8 table
 
 -- the ID that the server's words find for a row's word; whether the word begins with a space, and whether it begins a
 -- text; the end of the row's line; the row with its ID; whether its ID would begin a text

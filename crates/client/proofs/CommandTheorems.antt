@@ -25,7 +25,7 @@ use Rattle.text.specs.Line.{message, payloadOf, begun, lineOf, ofId}
 use Rattle.command.specs.Meaning.{readingOf}
 use Rattle.command.specs.Refusals.{verdict}
 use Rattle.message.specs.Quoting.{has}
-use Rattle.message.specs.Rows.{Row, rowOf}
+use Rattle.message.specs.Rows.{Row, commandRows, rowOf}
 use Rattle.message.specs.Forms.{fields, line, frame, form, encoded}
 use Rattle.message.specs.Writing.{Outcome, outcome}
 use Rattle.message.proofs.Theorems.{out-done, encoded-packets, encoded-framed, length-encoded-most}
@@ -38,7 +38,7 @@ use Rattle.server_text.proofs.RowLaws.{row-id, word-filled, word-spaceless, bod
 use Rattle.client.specs.Writing.{outcomeOf, byVerdict, writeIn}
 use Rattle.client.proofs.WriteLaws.{taken}
 use Rattle.client.proofs.ReceivedTheorems.{Follows, encoded-stream, frameLength-frame}
-use Rattle.client.proofs.CommandRows.{commandRows, text-fields, sent-listed, sent-named, sent-visible}
+use Rattle.client.proofs.CommandRows.{text-fields, sent-listed, sent-named, sent-visible}
 use Rattle.client.proofs.CommandRows.{sent-capital, sent-ended, sent-framed, sent-pays, sent-fits, sent-row}
 
 -- ---- a line

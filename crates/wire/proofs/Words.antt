@@ -24,7 +24,7 @@ use Rattle.text.specs.Fields.{trim, word, afterWord}
 use Rattle.text.specs.Payload.{payloadFor}
 use Rattle.text.specs.Line.{blank, payloadOf, ofPayload, ofId, begun, lineOf, Worded}
 use Rattle.text.proofs.LineRule.{line-gives, blank-or-worded}
-use Rattle.message.specs.Rows.{Row, table}
+use Rattle.message.specs.Rows.{Row, commandRows}
 use Rattle.command.specs.Refusals as Refusals
 use Rattle.wire.specs.Received.{readingLine, received}
 use Rattle.wire.specs.Verdict.{refusalOf}
@@ -44,7 +44,7 @@ abbrev written : Row → ℕ × Bytes
 written r = (r .id, r .word)
 
 -- the eight words that the reader knows, in capitals and with their IDs, are those that the writer of commands writes
-pub words-agree : map inCapitals words ≡ map written (take 8 table)
+pub words-agree : map inCapitals words ≡ map written commandRows
 unfolding ascii
 words-agree = refl
 

@@ -3,6 +3,8 @@
 // the memory, and nothing is kept outside it. The specs of the crate model say what each call gives
 // back and does (Calls), those of refinement what the calls promise for every memory and every
 // argument (Contracts). Set up is in setting, feed's message in feeding and transaction.
+#![tactic(auto)]
+
 mod feeding;
 mod setting;
 mod transaction;
@@ -23,7 +25,7 @@ pub use setting::{memory_size, set_up};
 
 // What a call gives back: its answer, and the bytes consumed by a feed or written by a take. Beside
 // the answers 1 to 8 the count is 0.
-#[derive(Drop)]
+#[derive(Clone, Copy)]
 pub struct Reply {
     pub answer: u32,
     pub count: usize,

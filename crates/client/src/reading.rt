@@ -17,7 +17,7 @@ use protocol::{Kind, Refusal};
 use server_text::Translated;
 
 // What a read gives back: its answer, the bytes consumed, and the bytes written to the out slice.
-#[derive(Drop)]
+#[derive(Clone, Copy)]
 pub struct Read {
     pub answer: u32,
     pub consumed: usize,
@@ -25,7 +25,7 @@ pub struct Read {
 }
 
 // What an ID and a payload are.
-#[derive(Drop)]
+#[derive(Clone, Copy)]
 pub enum Judged {
     Message,
     Bad,

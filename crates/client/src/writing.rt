@@ -12,14 +12,14 @@ use message::Written;
 use protocol::{Kind, Refusal};
 
 // What a write gives back: its answer, and the bytes written to the out slice.
-#[derive(Drop)]
+#[derive(Clone, Copy)]
 pub struct Reply {
     pub answer: u32,
     pub count: usize,
 }
 
 // Whether a command is refused, and why.
-#[derive(Drop)]
+#[derive(Clone, Copy)]
 pub enum Verdict {
     Good,
     Refused(Refusal),

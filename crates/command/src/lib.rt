@@ -1,4 +1,6 @@
 // A message's ID and payload as a command. What a command holds are places of its payload.
+#![tactic(auto)]
+
 ghost use Rattle.std.specs.Prelude.{◌≡◌, ◌+◌, ◌≤◌, ◌<◌, length};
 ghost use Rattle.command.specs.Commands.{hello_of, pattern_of, read_of, written_of, write_of};
 ghost use Rattle.command.specs.Commands.{Splits, empty_of, command_of};
@@ -7,21 +9,21 @@ ghost use Rattle.command.specs.Commands;
 use protocol::Refusal;
 
 // What a WRITE does to its key: it deletes it, or gives it the `len` bytes from `start` on.
-#[derive(Drop)]
+#[derive(Clone, Copy)]
 pub enum Written {
     Delete,
     Value { start: usize, len: usize },
 }
 
 // The parts of a WRITE's payload: its key is the first `key` bytes.
-#[derive(Drop)]
+#[derive(Clone, Copy)]
 pub struct Parts {
     pub key: usize,
     pub written: Written,
 }
 
 // A command, or why it is refused. A WRITE's key is the first `key` bytes of the payload.
-#[derive(Drop)]
+#[derive(Clone, Copy)]
 pub enum Command {
     Hello,
     Sub,

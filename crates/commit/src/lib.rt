@@ -4,6 +4,8 @@
 // an index of the store: offsets of some of its rows, from which the search for a key may begin.
 // The store does not change while a COMMIT is tried out, so the index is only read. Internal layer:
 // what a function requires is its callers' to show.
+#![tactic(auto)]
+
 mod exchange;
 
 ghost use Rattle.std.specs.Prelude.{◌≡◌, true, ◌+◌, ◌≤◌, length, drop};
@@ -26,7 +28,7 @@ use exchange::exchanged;
 
 // What the actions up to a turn come to: whether one is refused, and where none is, what the store
 // then charges and how many entries it has.
-#[derive(Drop)]
+#[derive(Clone, Copy)]
 struct Tally {
     refused: bool,
     used: usize,

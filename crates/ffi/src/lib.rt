@@ -5,6 +5,8 @@
 // behind it promises; include/infod3.h says the same in words.
 // What a host owes is C's own: a slice is memory that is its to lend, and the slices of one call do
 // not overlap.
+#![tactic(auto)]
+
 ghost use Rattle.std.specs.Prelude.{◌≡◌};
 ghost use Rattle.pattern.specs.Answer.{answer};
 ghost use Rattle.infod3.specs.Infod3.{infod3};
@@ -17,7 +19,7 @@ ghost use Rattle.ffi.specs.Results.{match_result};
 // What a call gives back: its answer, and the bytes consumed by a feed, or written by a take or a
 // writing of a command.
 #[repr(C)]
-#[derive(Drop)]
+#[derive(Clone, Copy)]
 pub struct Reply {
     pub answer: u32,
     pub count: usize,
@@ -25,7 +27,7 @@ pub struct Reply {
 
 // What a match gives: the answer (0, 101 or 102), yes or no, and the steps.
 #[repr(C)]
-#[derive(Drop)]
+#[derive(Clone, Copy)]
 pub struct MatchResult {
     pub answer: u32,
     pub matched: bool,
@@ -34,7 +36,7 @@ pub struct MatchResult {
 
 // What a reading of a message gives: the answer, the bytes consumed, and the bytes written.
 #[repr(C)]
-#[derive(Drop)]
+#[derive(Clone, Copy)]
 pub struct Read {
     pub answer: u32,
     pub consumed: usize,

@@ -1,5 +1,7 @@
 // Framing: the kind of a stream by its first byte, and the first whole message of an input as a
 // part of the caller's slice.
+#![tactic(auto)]
+
 ghost use Rattle.std.specs.Prelude.{◌≡◌, ◌+◌, ◌*◌, ◌≤◌, ◌<◌, length, take, drop};
 ghost use Rattle.framing.specs.Framing.{starts_text, kind_of, ends_line, line_end, line_length};
 ghost use Rattle.framing.specs.Framing.{frame_length, length_of, message};

@@ -2,6 +2,8 @@
 // what a memory means (Image), its rules (Rules) and what functions ask and promise (Contracts).
 // Internal layer: what a function requires is its callers' to show. The sizes of a memory are read
 // from its header where they are needed.
+#![tactic(auto)]
+
 mod check;
 mod entries;
 mod header;

@@ -1,6 +1,8 @@
 // The server's messages as bytes, for clients of each kind: how long a message is, and the message
 // written to a lent slice; and the commands, written in the same forms. A message is an ID, the word
 // of its text line, the shape of its fields and a payload in binary form.
+#![tactic(auto)]
+
 ghost use Rattle.std.specs.Prelude.{◌≡◌, ◌≤◌, ◌<◌, length};
 ghost use Rattle.std.proofs.lemmas.List.Edits.{sets};
 ghost use Rattle.protocol.specs.Terms;
@@ -18,7 +20,7 @@ mod quoting;
 pub use quoting::{escaped_in, is_escaped};
 
 // How the fields of a text line follow from a payload.
-#[derive(Drop)]
+#[derive(Clone, Copy)]
 pub enum Shape {
     // A number, which is the first byte, and the rest as a string.
     Numbered,
@@ -32,7 +34,7 @@ pub enum Shape {
 
 // A message of the server. A body goes with it: for an INFO a key, or a key, NUL and a value; for a
 // PONG an identifier. The others have no use for it.
-#[derive(Drop)]
+#[derive(Clone, Copy)]
 pub enum Message {
     Version,
     Info,
@@ -41,7 +43,7 @@ pub enum Message {
 }
 
 // What a writer answers.
-#[derive(Drop)]
+#[derive(Clone, Copy)]
 pub enum Written {
     // The message stands at the start of the out slice, and this is its length.
     Done(usize),

@@ -6,7 +6,7 @@ ghost use Rattle.pattern.specs.declared.element.Simple.TheVariants as Simples;
 
 // An element that is no group: a byte, `?`, `*` up to and including a byte, and `*` that takes the
 // rest.
-#[derive(Drop)]
+#[derive(Clone, Copy)]
 pub enum Simple {
     Byte(u8),
     Any,
@@ -15,7 +15,7 @@ pub enum Simple {
 }
 
 // Whether an element matched, where the key goes on, and the steps.
-#[derive(Drop)]
+#[derive(Clone, Copy)]
 pub struct Taken {
     pub matched: bool,
     pub key: usize,

@@ -5,6 +5,8 @@
 // Modules, low to high: token (a pattern byte by byte), syntax (which patterns are valid), element
 // (what one element takes of a key), part (elements and the marks of groups), walk (sequences and
 // branches).
+#![tactic(auto)]
+
 mod element;
 mod part;
 mod syntax;
@@ -21,7 +23,7 @@ use syntax::{Checked, check};
 use walk::walk_sequence;
 
 // What a match asked by itself gives: the answer (0, 101 or 102), yes or no, and the steps.
-#[derive(Drop)]
+#[derive(Clone, Copy)]
 pub struct Match {
     pub answer: u32,
     pub matched: bool,
@@ -29,7 +31,7 @@ pub struct Match {
 }
 
 // The yes or no and the steps of a match that is not refused.
-#[derive(Drop)]
+#[derive(Clone, Copy)]
 struct Verdict {
     matched: bool,
     steps: usize,

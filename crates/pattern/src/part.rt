@@ -6,7 +6,7 @@ use crate::element::Simple;
 use crate::token::{Token, token_at};
 
 // What stands at a place of a pattern, and where the next part starts.
-#[derive(Drop)]
+#[derive(Clone, Copy)]
 pub enum Found {
     One(Simple, usize),
     Open(usize),

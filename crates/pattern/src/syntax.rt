@@ -7,7 +7,7 @@ use crate::token::{Token, token_at};
 
 // What a token is to the check: it goes on at a place, a group opens or closes before it, or the
 // pattern is invalid.
-#[derive(Drop)]
+#[derive(Clone, Copy)]
 enum Step {
     On(usize),
     Enter(usize),
@@ -16,7 +16,7 @@ enum Step {
 }
 
 // A part of the pattern was checked up to a place, or the pattern is invalid.
-#[derive(Drop)]
+#[derive(Clone, Copy)]
 pub enum Checked {
     Upto(usize),
     Invalid,

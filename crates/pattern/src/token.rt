@@ -4,7 +4,7 @@ ghost use Rattle.pattern.specs.Tokens;
 ghost use Rattle.pattern.specs.Checking.{TokenAt};
 
 // `(`, `|`, `)`, `*`, `?`, an ordinary or escaped byte, and a `\` at the end of the pattern.
-#[derive(Drop)]
+#[derive(Clone, Copy)]
 pub enum Token {
     Open,
     Bar,
@@ -16,7 +16,7 @@ pub enum Token {
 }
 
 // A token, and where the next one starts.
-#[derive(Drop)]
+#[derive(Clone, Copy)]
 pub struct Lexeme {
     pub token: Token,
     pub next: usize,

@@ -10,7 +10,7 @@ use crate::part::{Found, part_at};
 
 // Where a walk stands in the pattern, whether what it walked matched, where the key goes on, and
 // its steps.
-#[derive(Drop)]
+#[derive(Clone, Copy)]
 pub struct Walk {
     pub at: usize,
     pub matched: bool,
@@ -19,7 +19,7 @@ pub struct Walk {
 }
 
 // What follows a branch: another one, or what stands after the group.
-#[derive(Drop)]
+#[derive(Clone, Copy)]
 enum Turn {
     Another(usize),
     Over(usize),

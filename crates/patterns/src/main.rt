@@ -1,6 +1,8 @@
 // Matches patterns against keys and prints what document 01 says a match gives. With arguments
 // PATTERN KEY [PATTERN KEY ..] it prints a line for each pair. Without any it prints document 01's
 // table and its invalid patterns, and beside each what was computed and whether the two agree.
+#![tactic(auto)]
+
 mod table;
 mod text;
 

@@ -1,10 +1,12 @@
 // The terms that the wire and the server share: how a client speaks, and why a command is refused.
+#![tactic(auto)]
+
 ghost use Rattle.std.specs.Prelude.{◌≡◌};
 ghost use Rattle.protocol.specs.Terms;
 
 // How a client speaks. Form 0 is packets. Forms 1 and 2 are a stream until its first message makes
 // it framed or text.
-#[derive(Drop)]
+#[derive(Clone, Copy)]
 pub enum Kind {
     Packets,
     Stream,
@@ -13,7 +15,7 @@ pub enum Kind {
 }
 
 // Why a command is refused.
-#[derive(Drop)]
+#[derive(Clone, Copy)]
 pub enum Refusal {
     Unknown,
     Parameter,

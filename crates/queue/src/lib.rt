@@ -9,6 +9,8 @@
 // A function that writes promises the region's length, its rule and its meaning. Where the messages
 // stand in the room, and what its other bytes hold, is left open. Internal layer: what a function
 // requires is its callers' to show.
+#![tactic(auto)]
+
 mod owing;
 mod region;
 mod taking;

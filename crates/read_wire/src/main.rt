@@ -6,6 +6,8 @@
 // Every other line is printed, and below it, for each message: how the client speaks, the bytes
 // consumed, and the command with its fields, or `blank`, or `refused` and its number. A refused
 // client is read no further. `wait` tells how many bytes are no whole message yet.
+#![tactic(auto)]
+
 mod script;
 mod show;
 

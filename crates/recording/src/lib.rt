@@ -4,6 +4,8 @@
 // 1, payload length 3, payload. Offsets count from the start of the room. A function that writes
 // leaves open the bytes of the room behind the rows. Internal layer: what a function requires is
 // its callers' to show.
+#![tactic(auto)]
+
 mod rows;
 mod turn;
 

@@ -6,7 +6,7 @@ ghost use Rattle.recording.specs.Turn.{body_at_turn};
 ghost use Rattle.recording.specs.Promises.{Until, Candidate, Latest, LastWrite};
 
 // Where the payload of a WRITE stands, if one was found: len bytes from index `at` of the region.
-#[derive(Drop)]
+#[derive(Clone, Copy)]
 struct Row {
     found: bool,
     at: usize,

@@ -2,6 +2,8 @@
 // line of standard input is a digit, a space and a command line, which is fed with its LF to the
 // slot of the digit. After each line all messages are taken, slot 0 first, and the digit of the
 // slot, a space and the message are printed.
+#![tactic(auto)]
+
 ghost use Rattle.std.specs.Prelude.{◌≤◌, ◌<◌, length};
 
 use libc::STDOUT_FILENO;

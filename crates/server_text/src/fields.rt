@@ -12,7 +12,7 @@ use message::Shape;
 use text::Number;
 
 // A payload's length, or fields of another form.
-#[derive(Drop)]
+#[derive(Clone, Copy)]
 pub enum Built {
     Payload(usize),
     Faulty,

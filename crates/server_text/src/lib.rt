@@ -1,6 +1,8 @@
 // The text form of the server's messages, read exactly: one line, given without its LF, as a
 // message in binary form. Only lines of the form that the server writes are taken. ID and payload
 // go to the start of a lent slice and stop at its end; they are never longer than the line.
+#![tactic(auto)]
+
 mod fields;
 mod strings;
 
@@ -14,14 +16,14 @@ use message::Shape;
 use protocol::Refusal;
 
 // What a line is: a message whose ID and payload of `len` bytes stand in the slice, or refused.
-#[derive(Drop)]
+#[derive(Clone, Copy)]
 pub enum Translated {
     Message { id: u8, len: usize },
     Refused(Refusal),
 }
 
 // The ID and the shape of a word.
-#[derive(Drop)]
+#[derive(Clone, Copy)]
 pub enum Named {
     Unknown,
     Row { id: u8, shape: Shape },

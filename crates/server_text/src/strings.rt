@@ -8,7 +8,7 @@ ghost use Rattle.server_text.specs.Promises.{RawTo, CopiedTo, escaped_as, String
 use text::{Char, Octal};
 
 // A string of `len` bytes, with a NUL or not, before `next`; or a malformed one.
-#[derive(Drop)]
+#[derive(Clone, Copy)]
 pub enum Scanned {
     String { len: usize, next: usize, nul: bool },
     Bad,

@@ -3,6 +3,8 @@
 // what a slot means and what operations make of it (Image), and what functions ask and promise
 // (Contracts). Internal layer: `r` is the record room R everywhere, and what a function requires is
 // its callers' to show.
+#![tactic(auto)]
+
 mod client;
 mod fine;
 mod queueing;

@@ -1,6 +1,8 @@
 // A step: each action at its turn changes the store and the patterns and owes messages, and at the
 // end every slot is settled. What is read from the store and owed to a client goes through a local
 // buffer, since both lie in the memory.
+#![tactic(auto)]
+
 ghost use Rattle.std.specs.Prelude.{◌≡◌, not, ◌≤◌, length};
 ghost use Rattle.protocol.specs.Terms.{sub, read};
 ghost use Rattle.pattern.specs.Answer.{accepted};

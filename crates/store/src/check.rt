@@ -25,7 +25,7 @@ fn key_follows(rows: &[u8], prev: usize, at: usize) -> bool
 
 // How far a walk along the rows has come: whether all have passed, and if so, the row before and
 // where the next one is. Where one has not passed, the two offsets are left open.
-#[derive(Drop)]
+#[derive(Clone, Copy)]
 struct Walk {
     fine: bool,
     prev: usize,

@@ -4,6 +4,8 @@
 // numbers that can be added, and every other function for a region that holds a store. Bytes of the
 // room behind the rows are left open by every function that writes. Internal layer: what a function
 // requires is its callers' to show.
+#![tactic(auto)]
+
 mod check;
 mod index;
 mod reading;

@@ -12,7 +12,7 @@ use crate::row;
 use octets::{Order, compare, u32_at};
 
 // The place of a key's row.
-#[derive(Drop)]
+#[derive(Clone, Copy)]
 pub struct Place {
     pub at: usize,
     pub len: usize,

@@ -3,6 +3,8 @@
 // any bytes, and equal ones may stand side by side: every function is right for any list of them.
 // A function that writes leaves open the bytes of a cell behind its pattern, and the cells behind
 // the last pattern. Internal layer: what a function requires is its callers' to show.
+#![tactic(auto)]
+
 ghost use Rattle.std.specs.Prelude.{◌≡◌, [], true, ◌+◌, length};
 ghost use Rattle.model.specs.Patterns.{held, add_pattern, remove_pattern};
 ghost use Rattle.model.specs.Step.{subscribed};

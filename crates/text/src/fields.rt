@@ -5,14 +5,14 @@ ghost use Rattle.text.specs.FieldPost.{Skipped, Spelled, octal_of, CharAt, Scann
 ghost use Rattle.text.specs.FieldPost.{is_ended};
 
 // A byte that three octal digits spell, or none.
-#[derive(Drop)]
+#[derive(Clone, Copy)]
 pub enum Octal {
     Byte(u8),
     Bad,
 }
 
 // What stands in a quoted field: a byte, the closing quote, or a fault.
-#[derive(Drop)]
+#[derive(Clone, Copy)]
 pub enum Char {
     Byte { byte: u8, next: usize },
     Close { next: usize },
@@ -21,7 +21,7 @@ pub enum Char {
 
 // What comes next in a line: nothing, a malformed field, or a field of `len` bytes, with a NUL or
 // not, before `next`.
-#[derive(Drop)]
+#[derive(Clone, Copy)]
 pub enum Found {
     Nothing,
     Faulty,

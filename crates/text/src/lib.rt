@@ -1,6 +1,8 @@
 // The text form of the infod3 protocol: one line, given without its ending byte, as a message in
 // binary form. A payload goes to the start of a lent buffer and stops at its end. It is never
 // longer than the line, so a buffer as long as the line holds it whole.
+#![tactic(auto)]
+
 mod fields;
 mod payloads;
 
@@ -18,7 +20,7 @@ use words::Named;
 
 // What a line is: blank; a message, whose payload of `len` bytes stands at the start of the buffer,
 // as far as that goes; or refused.
-#[derive(Drop)]
+#[derive(Clone, Copy)]
 pub enum Translated {
     Blank,
     Message { id: u8, len: usize },

@@ -11,14 +11,14 @@ ghost use Rattle.text.specs.PayloadPost.{BuildsLine, has_field, has_version};
 use crate::fields::{Found, is_ended, next_field, skip_spaces, word_end};
 
 // A number below 256.
-#[derive(Drop)]
+#[derive(Clone, Copy)]
 pub enum Number {
     Is(u8),
     Bad,
 }
 
 // HELLO's version, before `next`.
-#[derive(Drop)]
+#[derive(Clone, Copy)]
 pub enum Version {
     Missing,
     Faulty,
@@ -26,7 +26,7 @@ pub enum Version {
 }
 
 // A payload's length, or a bad, missing or surplus field.
-#[derive(Drop)]
+#[derive(Clone, Copy)]
 pub enum Built {
     Payload(usize),
     Faulty,

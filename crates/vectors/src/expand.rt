@@ -2,7 +2,7 @@
 ghost use Rattle.std.specs.Prelude.{◌+◌, ◌≤◌, ◌<◌, length};
 
 // One byte, how often it comes, and where the next item begins.
-#[derive(Drop)]
+#[derive(Clone, Copy)]
 pub struct Item {
     pub byte: u8,
     pub times: usize,

@@ -12,6 +12,8 @@
 // In an input `\n`, `\r`, `\xHH` and `\` before any other byte stand for one byte, and `{N*c}` for
 // N times the byte c. A line that begins with `#` is printed as it is. Every other line is printed,
 // and below it the answer and its numbers, with the bytes that were taken, written or read.
+#![tactic(auto)]
+
 mod client_side;
 mod expand;
 mod show;
@@ -19,7 +21,7 @@ mod show;
 ghost use Rattle.std.specs.Prelude.{◌≤◌, length};
 
 // A number of a line, and where the next word begins.
-#[derive(Drop)]
+#[derive(Clone, Copy)]
 struct Number {
     value: usize,
     next: usize,

@@ -3,6 +3,8 @@
 // A caller cuts the first message, reads it with a lent buffer, and finds the payload of a command
 // in the message or in the buffer. A buffer as long as the message always has room: with such a one
 // `Reading::Short` is never the answer.
+#![tactic(auto)]
+
 ghost use Rattle.std.specs.Prelude.{◌≡◌, ◌≤◌, length, take};
 ghost use Rattle.framing.specs.Framing.{message};
 ghost use Rattle.wire.specs.Received.{binary};
@@ -18,7 +20,7 @@ use text::Translated;
 // What a message is: a blank line; a text line that is longer than the lent buffer, its ending byte
 // not counted; or a command, which may be a refusal, with the length of its payload, 0 where a
 // refused message has none.
-#[derive(Drop)]
+#[derive(Clone, Copy)]
 pub enum Reading {
     Blank,
     Short,

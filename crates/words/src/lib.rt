@@ -1,19 +1,21 @@
 // The words of text commands: one constant table of word, letter and ID, and its look-up. No other
 // word is known, and no other list of them is read.
+#![tactic(auto)]
+
 ghost use Rattle.std.specs.Prelude.{◌≡◌, map, ◌<◌};
 ghost use Rattle.octets.specs.Order.{same};
 ghost use Rattle.words.specs.Words.{lower, is_letter, names, id_of};
 ghost use Rattle.words.specs.Table.{entry_at, row_of, named_of};
 
 // The letter that stands for a word, a small one, where there is one.
-#[derive(Drop)]
+#[derive(Clone, Copy)]
 enum Letter {
     Some(u8),
     None,
 }
 
 // A word in small letters, filled up with NUL, and its length; its letter; its ID.
-#[derive(Drop)]
+#[derive(Clone, Copy)]
 struct Row {
     pub word: [u8; 6],
     pub len: usize,
@@ -22,7 +24,7 @@ struct Row {
 }
 
 // The ID that a word names.
-#[derive(Drop)]
+#[derive(Clone, Copy)]
 pub enum Named {
     Id(u8),
     Unknown,

@@ -1,0 +1,20 @@
+-- `framing::length_of` goes by the kind.
+use borrow.Author.Rules.{rules}
+use Rattle.framing.specs.Framing.{length_of}
+use Rattle.framing.proofs.length_of.Goals as goal
+
+pub returns-in-Packets : goal.returns-in-Packets
+unfolding length_of
+returns-in-Packets c = rw c.in-Packets.is
+
+pub returns-in-Stream : goal.returns-in-Stream
+unfolding length_of
+returns-in-Stream c = rw c.in-Stream.is
+
+pub returns-in-Framed : goal.returns-in-Framed
+unfolding length_of
+returns-in-Framed c = rw c.in-Framed.is c.frame_length.ensures
+
+pub returns-in-Text : goal.returns-in-Text
+unfolding length_of
+returns-in-Text c = rw c.in-Text.is c.line_length.ensures

@@ -1,0 +1,16 @@
+use borrow.Author.Rules.{rules}
+use native.Mathlib.Omega.{arith}
+use mathlib.Core.Path.{◌≡◌, refl, sym, ◌∙◌}
+use Prim.Native.Nat.{◌-◌}
+use lib.ListN.{length, drop}
+use Rattle.octets.specs.Order.{order}
+use Rattle.octets.proofs.Words.{order-byte-less, order-byte-greater, order-byte-same, order-longer}
+use Rattle.octets.proofs.Words.{order-shorter, order-ended}
+use Rattle.octets.proofs.comparison.compare_bytes.Given as goal
+
+-- the bytes before i are equal
+abbrev pub invariant-loop-i : goal.invariant-loop-i
+invariant-loop-i l = order (drop l.from l.a) (drop l.from l.b) ≡ order (drop l.i l.a) (drop l.i l.b)
+
+abbrev pub decreases-loop-i : goal.decreases-loop-i
+decreases-loop-i l = length l.a - l.i

@@ -1,0 +1,15 @@
+use borrow.Author.Rules.{rules}
+use native.Mathlib.Omega.{arith}
+use mathlib.Core.Path.{◌≡◌, refl, sym, ◌∙◌}
+use Prim.Native.Nat.{◌-◌}
+use lib.ListN.{length, drop}
+use Rattle.octets.specs.Order.{same}
+use Rattle.octets.proofs.Words.{same-byte-same, same-byte-other, same_ended}
+use Rattle.octets.proofs.comparison.equal_bytes.Given as goal
+
+-- the bytes before i are equal
+abbrev pub invariant-loop-i : goal.invariant-loop-i
+invariant-loop-i l = same (drop l.from l.a) (drop l.from l.b) ≡ same (drop l.i l.a) (drop l.i l.b)
+
+abbrev pub decreases-loop-i : goal.decreases-loop-i
+decreases-loop-i l = length l.a - l.i

@@ -1,0 +1,35 @@
+use borrow.Author.Rules.{rules}
+use native.Mathlib.Omega.{arith}
+use Prim.Native.Nat.{min as least}
+use mathlib.Core.Path.{◌≡◌, refl, sym, ◌∙◌}
+use Prim.Native.Nat.{◌-◌, ◌≤◌}
+use lib.ListN.{length, take, length-set}
+use lib.Seq.{sets}
+use Rattle.octets.proofs.Laws.{sets-out, sets-take-suc, sets-clipped}
+use Rattle.octets.proofs.copy.Goals as goal
+
+pub returns-then-dst-at : goal.returns-then-dst-at
+returns-then-dst-at c = let A = c.args in sym
+    (sets-out A.dst.now A.at A.src.now c.if-dst-at.true)
+
+pub loop-i-init : goal.loop-i-init
+loop-i-init c = (omega arith, c.min-n.ensures, refl, refl)
+
+pub loop-i-preserved : goal.loop-i-preserved
+loop-i-preserved c =
+    let A = c.args in
+    let L = c.loop-i in (
+      omega arith,
+      L.invariant.1,
+      rw L.invariant.2 (sets-take-suc A.dst.now A.at A.src.now L.i (omega arith)),
+      simp length-set L.invariant.3,
+    )
+
+pub shape_of-dst : goal.shape_of-dst
+shape_of-dst c = c.loop-i.invariant.3
+
+pub returns : goal.returns
+returns c =
+    let A = c.args in
+    let L = c.loop-i in
+    L.invariant.2 ∙ sets-clipped A.dst.now A.at A.src.now L.i (omega arith)

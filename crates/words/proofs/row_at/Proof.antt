@@ -1,0 +1,15 @@
+-- `words::row_at`: the rows of the code are those of the table of words, computed.
+use borrow.Author.Rules.{rules}
+use Rattle.octets.specs.Octets.{ascii}
+use Rattle.words.specs.Words.{words}
+use Rattle.words.specs.Table.{no_entry, row_of}
+use Rattle.words.proofs.Laws.{get_d-map-within}
+use Rattle.words.proofs.row_at.Statement.{statement}
+use Rattle.words.proofs.row_at.Tie as tie
+
+returns : tie.Need-returns
+unfolding ascii
+returns c = get_d-map-within row_of words c.before.args.i _ no_entry c.before.requires
+
+pub row-at-spec : {M : Type 1} → statement M
+row-at-spec = tie.close (tie.spec (λ c. search rules) (λ c. search rules) returns)

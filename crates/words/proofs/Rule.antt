@@ -24,6 +24,7 @@ every f (e ∷ es) = f e && every f es
 
 -- then each row of it does
 pub every_in : (f : Entry → Bool) (es : List Entry) (e : Entry) → every f es ≡ true → In e es → f e ≡ true
+every_in f [] e h x'' = elim x'' [ ]
 every_in f (x ∷ es) e h (inl q) = rw q ((and-eq-true_iff (f x) (every f es)).0 h).0
 every_in f (x ∷ es) e h (inr m) = every_in f es e ((and-eq-true_iff (f x) (every f es)).0 h).1 m
 
@@ -55,6 +56,8 @@ small (c ∷ s) = eqb (lower c) c && small s
 
 -- the small letters of a name in any case are the name, if that has no capitals
 lower-any : (w name : Bytes) → small name ≡ true → AnyCase w name → map lower w ≡ name
+lower-any [] (c ∷ name) s a = elim a [ ]
+lower-any (b ∷ w) [] s a = elim a [ ]
 lower-any [] [] s a = refl
 lower-any (b ∷ w) (c ∷ name) s (e, a) =
     let t = (and-eq-true_iff (eqb (lower c) c) (small name)).0 s in
@@ -78,6 +81,7 @@ small_letter (Some c) = small (c ∷ [])
 small_letter None = true
 
 lower-letter : (w : Bytes) (l : Letter) → small_letter l ≡ true → IsLetter w l → is_letter (map lower w) l ≡ true
+lower-letter w None s a = elim a [ ]
 lower-letter w (Some c) s a = eq-same (map lower w) (c ∷ []) (lower-any w (c ∷ []) s a)
 
 -- whether a row's word and letter have no capitals
@@ -135,6 +139,7 @@ words-fit = refl
 look_up-in : (w : Bytes) (es : List Entry) (e : Entry) → apart es ≡ true → In e es → names w e ≡ true
     → look_up w es ≡ some e.id
 unfolding look_up
+look_up-in w [] e a x3 h = elim x3 [ ]
 look_up-in w (x ∷ es) e a (inl q) h = rw (← q, h)
 look_up-in w (x ∷ es) e a (inr m) h =
     let t = (and-eq-true_iff (every (λ y. not (shares x y)) es) (apart es)).0 a in

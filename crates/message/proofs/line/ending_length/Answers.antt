@@ -1,0 +1,11 @@
+use borrow.Author.Tests.{lt-ltb, le-ltb}
+use Rattle.message.specs.Forms.{ending}
+use Rattle.message.proofs.line.ending_length.Goals as goal
+
+pub returns-then-id-lt128 : goal.returns-then-id-lt128
+unfolding ending
+returns-then-id-lt128 c = rw (lt-ltb _ _ c.if-id-lt128.true)
+
+pub returns-else-id-lt128 : goal.returns-else-id-lt128
+unfolding ending
+returns-else-id-lt128 c = rw (le-ltb _ _ c.if-id-lt128.false)

@@ -1,0 +1,6 @@
+use borrow.Author.Rules.{rules}
+use Rattle.message.proofs.put_packet.Goals as goal
+
+pub returns : goal.returns
+returns c = rw c.copy.ensures
+    (rw c.put.ensures)

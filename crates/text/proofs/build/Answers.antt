@@ -16,8 +16,8 @@ returns-in-0 c =
     let f = c.hello_fields in
     arm-for A.id A.line.now A.at A.buf.now hello_payload
     (λ fs. rw c.in-0.is) has_version
-    (λ x. rw c.in-0.is) f.result f.new.1.1.0
-    c.answer.result f.auto.1.1.0 f.ensures c.answer.ensures
+    (λ x. rw c.in-0.is) f.result f.new.buf
+    c.answer.result f.auto.buf f.ensures c.answer.ensures
 
 pub returns-in-4 : goal.returns-in-4
 unfolding payload_for stores
@@ -26,8 +26,8 @@ returns-in-4 c =
     let f = c.write_fields in
     arm-for A.id A.line.now A.at A.buf.now write_payload
     (λ fs. rw c.in-4.is) has_field
-    (λ x. rw c.in-4.is) f.result f.new.1.1.0
-    c.answer-in-4.result f.auto.1.1.0 f.ensures c.answer-in-4.ensures
+    (λ x. rw c.in-4.is) f.result f.new.buf
+    c.answer-in-4.result f.auto.buf f.ensures c.answer-in-4.ensures
 
 pub returns-in-7 : goal.returns-in-7
 unfolding payload_for stores
@@ -36,8 +36,8 @@ returns-in-7 c =
     let f = c.one_field in
     arm-for A.id A.line.now A.at A.buf.now ping_payload
     (λ fs. rw c.in-7.is) has_field
-    (λ x. rw c.in-7.is) f.result f.new.1.1.0
-    c.answer-in-7.result f.auto.1.1.0 f.ensures c.answer-in-7.ensures
+    (λ x. rw c.in-7.is) f.result f.new.buf
+    c.answer-in-7.result f.auto.buf f.ensures c.answer-in-7.ensures
 
 pub returns-in-1 : goal.returns-in-1
 returns-in-1 c =
@@ -47,7 +47,7 @@ returns-in-1 c =
     arm-for A.id A.line.now A.at A.buf.now one_payload
     (λ fs. payload_for-one A.id fs c.in-1.in_default-own.rest.0.0.1 low) has_field
     (λ x. stores-field A.id x c.in-1.in_default-own.rest.0.0.1 (λ e. omega arith) (λ e. omega arith)) f.result
-    f.new.1.1.0 c.answer-in-1.result f.auto.1.1.0 f.ensures c.answer-in-1.ensures
+    f.new.buf c.answer-in-1.result f.auto.buf f.ensures c.answer-in-1.ensures
 
 pub returns-in-5 : goal.returns-in-5
 returns-in-5 c =

@@ -11,7 +11,7 @@ pub returns-then-line-i-eq34 : goal.returns-then-line-i-eq34
 returns-then-line-i-eq34 c = let A = c.args in
     let q = c.quoted_field in
     found-quoted c.skip_spaces-i.ensures
-    c.if-line-i.false A.buf.now A.to q.new.1.1.0
+    c.if-line-i.false A.buf.now A.to q.new.buf
     c.if-line-i-eq34.true q.result q.ensures
 
 pub returns : goal.returns

@@ -20,10 +20,10 @@ pub returns-in-Is : goal.returns-in-Is
 returns-in-Is c = version-plain c.skip_spaces-i.ensures c.if-line-i.false
     c.if-line-i-eq34.false
     c.word_end-e.ensures _
-    (sym c.before.before.before.number_of_lem.ensures ∙ c.in-Is.is)
+    (sym c.number_of-n.ensures ∙ c.in-Is.is)
 
 pub returns-in-Bad : goal.returns-in-Bad
 returns-in-Bad c = version-bad c.skip_spaces-i.ensures
     c.if-line-i.false
     c.if-line-i-eq34.false c.word_end-e.ensures
-    (sym c.before.before.number_of_lem.ensures ∙ c.in-Bad.is)
+    (sym c.number_of-n.ensures ∙ c.in-Bad.is)

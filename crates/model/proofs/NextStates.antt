@@ -1,10 +1,10 @@
 -- The state after each event, as a change of one slot or slot by slot: the equations by which what the memory holds
 -- after a call is compared with the simple server's next state.
-use mathlib.Core.Path.{◌≡◌, refl, ap, ◌∙◌}
+use mathlib.Core.Path.{◌≡◌, refl, ap, sym, subst, ◌∙◌}
 use mathlib.Core.List.{List, [], ◌∷◌}
 use mathlib.Core.Bool.{true, false, cond}
 use Prim.Native.Nat.{ℕ, zero, suc, ◌+◌, ◌<◌}
-use native.Mathlib.Nat.{zero-add, add-zero}
+use native.Mathlib.Nat.{zero-add}
 use native.Mathlib.Omega.{arith}
 use lib.Dec.{eqb}
 use lib.ListN.{length, get_or, set}
@@ -56,10 +56,12 @@ pub each-one : {queueing : Queueing} (g : SlotOf queueing → SlotOf queueing) (
 unfolding each_slot
 each-one g n i [] = refl
 each-one g n zero (x ∷ l) =
-    rw (add-zero n, eq-eqb n n refl, each-beyond g n (suc n) (omega arith) l)
+    rw (eq-eqb n (n + 0) (omega arith), each-beyond g (n + 0) (suc n) (omega arith) l)
 each-one g n (suc i) (x ∷ l) =
     let e : n + suc i ≡ suc n + i = omega arith in
-    rw (ne_eqb n (n + suc i) (λ q. omega arith), e) (ap (◌∷◌ x) (each-one g (suc n) i l))
+    rw (ne_eqb n (n + suc i) (λ q. omega arith))
+    (subst (λ m. x ∷ each_slot (λ j y. cond (eqb j m) (g y) y) (suc n) l ≡ x ∷ set l i (g (get_or l i free))) (sym e)
+    (ap (◌∷◌ x) (each-one g (suc n) i l)))
 
 module _ (protocol : Protocol) {queueing : Queueing} (st : StateOf queueing) (i : ℕ) where
   one-slot : (g : SlotOf queueing → SlotOf queueing)

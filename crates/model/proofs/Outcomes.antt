@@ -9,7 +9,7 @@ use lib.Dec.{leb, ltb}
 use lib.ListN.{length}
 use borrow.Author.Tests.{leb-true, ltb-true}
 use Rattle.octets.specs.Octets.{Bytes}
-use Rattle.protocol.specs.Terms.{Action, Command, begin, commit, plain, error, Reading, blank, command, invalid}
+use Rattle.protocol.specs.Terms.{Action, Command, begin, commit, plain, Reading, blank, command, invalid}
 use Rattle.protocol.specs.Terms.{Cut, incomplete, whole, Protocol}
 use Rattle.protocol.specs.declared.Kind.{Kind}
 use Rattle.protocol.specs.declared.Refusal.{Refusal}
@@ -20,7 +20,7 @@ use Rattle.model.specs.State.{Opening, Transaction, off, begun, spoiled, is_on, 
 use Rattle.model.specs.State.{ClientOf, SlotOf, free, used, StateOf, slot_at, recording_fits}
 use Rattle.model.specs.Events.{opened, closed, took, consumed, stepped}
 use Rattle.model.specs.Decision.{Call, opens, feeds, takes, closes, Decision, unaltered, done, refusal, slip}
-use Rattle.model.specs.Feed.{context_of, is_slip, forgives, stays_open, error_fits, decide_refusal, decide_step}
+use Rattle.model.specs.Feed.{context_of, forgives, stays_open, error_fits, decide_refusal, decide_step}
 use Rattle.model.specs.Feed.{decide_command, decide_reading, decide_cut, decide_feed}
 use Rattle.model.specs.Calls.{opening_of, decide_open_at, decide_open, decide_take_from, decide_take, decide_close}
 use Rattle.model.specs.Calls.{decide}

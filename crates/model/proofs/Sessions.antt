@@ -1,6 +1,6 @@
 -- A session: each line of an input is fed to a slot, and then all messages are taken, slot 0 first. Document 01's
 -- script program runs so. Beside it, examples of set up and of the history.
-use Prim.Native.Nat.{ℕ, zero, suc, ◌+◌}
+use Prim.Native.Nat.{ℕ, zero, suc}
 use mathlib.Core.Path.{◌≡◌, refl}
 use mathlib.Core.List.{List, [], ◌∷◌, ◌++◌, map}
 use mathlib.Core.Option.{some, none}

@@ -14,7 +14,7 @@ use Rattle.model.specs.State.{Transaction, off, begun, spoiled, after_slip, Clie
 use Rattle.model.specs.State.{with_kind, with_transaction}
 use Rattle.model.specs.Queue.{shut_by, with_error}
 use Rattle.model.specs.Events.{after_event}
-use Rattle.model.specs.Decision.{feeds, Reply, Decision, refusal, slip}
+use Rattle.model.specs.Decision.{feeds, Decision, refusal, slip}
 use Rattle.model.specs.Feed.{context_of, stays_open, error_fits, decide_refusal}
 use Rattle.model.specs.Calls.{decide, Out, serve}
 use Rattle.model.proofs.Outcomes.{Speaks}

@@ -1,0 +1,13 @@
+use Rattle.queue.proofs.Operations.{clearing}
+use borrow.Author.Rules.{rules}
+use Rattle.queue.proofs.region.clear.Goals as goal
+
+pub returns : goal.returns
+returns c =
+    rw (
+      c.put_u32-4.ensures,
+      c.put_u32-3.ensures,
+      c.put_u32-2.ensures,
+      c.put_u32.ensures,
+    )
+    (clearing c.args.q.now c.requires.0 c.requires.1)

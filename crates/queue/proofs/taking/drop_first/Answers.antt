@@ -1,0 +1,25 @@
+use mathlib.Core.Path.{◌≡◌}
+use native.Mathlib.Omega.{arith}
+use Rattle.queue.specs.Rows.{first_length}
+use Rattle.queue.specs.Region.{head, queued_of}
+use Rattle.queue.proofs.Regions.{length-queued_of}
+use Rattle.queue.proofs.First.{first_length-most, last_taken, first_taken}
+use borrow.Author.Rules.{rules}
+use Rattle.queue.proofs.taking.drop_first.Goals as goal
+
+pub overflow_add-n : goal.overflow_add-n
+overflow_add-n c =
+    omega (arith, first_length-most (queued_of c.args.q.now), length-queued_of c.requires.0.in_step)
+
+pub returns-then-queued-n : goal.returns-then-queued-n
+returns-then-queued-n c =
+    let q = c.args.q.now in
+    let e : c.args.n ≡ first_length (queued_of q) = c.requires.1 in
+    last_taken q c.clear.new.s c.requires.0 (omega arith) c.clear.ensures
+
+pub returns-else-queued-n : goal.returns-else-queued-n
+returns-else-queued-n c =
+    let q = c.args.q.now in
+    let e : c.args.n ≡ first_length (queued_of q) = c.requires.1 in
+    let h : c.u32_at-head.result ≡ head q = c.u32_at-head.ensures.value in
+    rw c.put_u32.ensures (first_taken q _ c.requires.0 (omega arith) (omega arith))

@@ -1,0 +1,14 @@
+use borrow.Author.Rules.{rules}
+use native.Mathlib.Omega.{arith}
+use Prim.Native.Nat.{◌-◌}
+use lib.ListN.{length}
+use Rattle.text.proofs.ScanLaws.{Scanning, scan-start, scan-byte, scan-close, scan-bad, scan-length}
+use Rattle.server_text.specs.Strings.{exact}
+use Rattle.server_text.proofs.ScanLaws.{scan-raw, exact-end}
+use Rattle.server_text.proofs.strings.string_at.Given as goal
+
+abbrev pub invariant-loop-i : goal.invariant-loop-i
+invariant-loop-i l = Scanning exact l.line l.at l.initial.buf l.to l.buf l.i l.n l.nul
+
+abbrev pub decreases-loop-i : goal.decreases-loop-i
+decreases-loop-i l = length l.line - l.i

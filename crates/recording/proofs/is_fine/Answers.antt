@@ -46,11 +46,11 @@ returns-then-n-gt64 c =
     (omega (arith, c.u32_at-n.ensures.value)))
 
 pub returns-then-not-is_state : goal.returns-then-not-is_state
-returns-then-not-is_state c = sym (rest (goal.at.returns-then-not-is_state c).After-is_state ∙ rw (not-true c.is_state.result c.if-not-is_state.true))
+returns-then-not-is_state c = sym (rest (goal.at.returns-then-not-is_state c).After-is_state ∙ rw (c.if-not-is_state.true))
 
 pub returns : goal.returns
 returns c =
     let used = c.u32_at-used.result in
     let e : 12 + used - 12 ≡ used = omega arith in
     rw e at c.rows_fine.ensures
-    ∙ sym (rest (goal.at.returns c).After-is_state ∙ rw (not-false c.is_state.result c.if-not-is_state.false))
+    ∙ sym (rest (goal.at.returns c).After-is_state ∙ rw (c.if-not-is_state.false))

@@ -27,10 +27,10 @@ returns c =
     let l₁ : length q₁ ≡ length q = c.put_u32.auto.s in
     let l : 16 + e + 4 + n ≤ length q₁ = omega (arith, c.requires.0.enough, c.u32_at-end.ensures.value) in
     let lo : length (part q₁ (16 + e + 4) n) ≡ n = length_part q₁ (16 + e + 4) n l in
-    let o : w.new.key ≡ sets (part q₁ (16 + e + 4) n) 0 m =
-    written_out A.kind A.message b (part q₁ (16 + e + 4) n) w.new.key w.result c.requires.1
+    let o : w.new.out ≡ sets (part q₁ (16 + e + 4) n) 0 m =
+    written_out A.kind A.message b (part q₁ (16 + e + 4) n) w.new.out w.result c.requires.1
     (omega arith) (rw k at w.ensures) in
-    let g : put_mid (16 + e + 4) (16 + e + 4 + n - (16 + e + 4)) q₁ w.new.key ≡ sets q₁ (16 + e + 4) m =
-    rw k (lent-part-sets q₁ (16 + e + 4) n 0 (16 + e + 4) m w.new.key o l (omega arith) (omega arith)) in
+    let g : put_mid (16 + e + 4) (16 + e + 4 + n - (16 + e + 4)) q₁ w.new.out ≡ sets q₁ (16 + e + 4) m =
+    rw k (lent-part-sets q₁ (16 + e + 4) n 0 (16 + e + 4) m w.new.out o l (omega arith) (omega arith)) in
     c.put_u32-2.ensures
     ∙ rw (g, c.put_u32.ensures) (pushed_row q m e n c.u32_at-end.ensures.value en)

@@ -30,12 +30,26 @@ short : (c : After-written_length-n) → c.written_length-n.result + 4 ≤ 64
 short c =
     rw (length-is c) (error-fits c.args.kind c.args.refusal)
 
+-- the ERROR's length
+length-is-2 : (c : After-drop_pending) → (
+    let A = c.args in
+    c.written_length-n.result ≡ length (written A.kind (error A.refusal)))
+unfolding said
+length-is-2 c =
+    let A = c.args in
+    c.written_length-n.ensures ∙ written-length A.kind (Error A.refusal) [] (omega arith)
+
+-- it fits in the room kept back
+short-2 : (c : After-drop_pending) → c.written_length-n.result + 4 ≤ 64
+short-2 c =
+    rw (length-is-2 c) (error-fits c.args.kind c.args.refusal)
+
 room-kept : (c : After-drop_pending) → (
     let q = c.drop_pending.new.q in
     pending_end q + (4 + c.written_length-n.result) ≤ head q + room q)
 room-kept c =
     let d = c.drop_pending.ensures in
-    omega (arith, short c.UP, c.requires, d.size, d.same_head, d.end-tail)
+    omega (arith, short-2 c, c.requires, d.size, d.same_head, d.end-tail)
 
 pub append-requires : goal.append-requires
 unfolding said
@@ -69,5 +83,5 @@ returns c =
     let d = c.drop_pending in
     let a = c.append in
     let s = c.settle in
-    putting-error A.kind A.refusal A.q.now d.new.q a.new.q s.new.mem w c.requires
+    putting-error A.kind A.refusal A.q.now d.new.q a.new.q s.new.q w c.requires
     (short (goal.at.returns c).After-written_length-n) (length-is (goal.at.returns c).After-written_length-n) d.ensures a.ensures s.ensures

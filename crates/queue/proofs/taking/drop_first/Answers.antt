@@ -15,7 +15,7 @@ pub returns-then-queued-n : goal.returns-then-queued-n
 returns-then-queued-n c =
     let q = c.args.q.now in
     let e : c.args.n ≡ first_length (queued_of q) = c.requires.1 in
-    last_taken q c.clear.new.s c.requires.0 (omega arith) c.clear.ensures
+    last_taken q c.clear.new.q c.requires.0 (omega arith) c.clear.ensures
 
 pub returns-else-queued-n : goal.returns-else-queued-n
 returns-else-queued-n c =

@@ -33,7 +33,7 @@ returns-then-rows-at-lt4 c =
     (rw length-drop (omega arith)))
 
 pub returns-then-not-is_action : goal.returns-then-not-is_action
-returns-then-not-is_action c = sym (long (goal.at.returns-then-not-is_action c).After-is_action ∙ rw (not-true c.is_action.result c.if-not-is_action.true))
+returns-then-not-is_action c = sym (long (goal.at.returns-then-not-is_action c).After-is_action ∙ rw (c.if-not-is_action.true))
 
 pub returns : goal.returns
-returns c = sym (long (goal.at.returns c).After-is_action ∙ rw (not-false c.is_action.result c.if-not-is_action.false))
+returns c = sym (long (goal.at.returns c).After-is_action ∙ rw (c.if-not-is_action.false))

@@ -15,7 +15,7 @@ use Rattle.recording.proofs.rows.rows_fine.Goals.{After-u24_at, Else-not-row_fin
 fine : (c : Else-not-row_fine)
     → row_fine (drop c.loop-i.at c.args.rows.now)
     ≡ true
-fine c = sym c.row_fine.ensures ∙ not-false c.row_fine.result c.if-not-row_fine.false
+fine c = sym c.row_fine.ensures ∙ c.if-not-row_fine.false
 
 whole : (c : Else-not-row_fine)
     → Whole (drop c.loop-i.at c.args.rows.now)
@@ -46,7 +46,7 @@ returns-then-not-row_fine c =
     let A = c.args in
     let l = c.loop-i in
     sym (check-broken A.rows.now A.n l.at l.i l.invariant (omega arith)
-    (sym c.row_fine.ensures ∙ not-true c.row_fine.result c.if-not-row_fine.true))
+    (sym c.row_fine.ensures ∙ c.if-not-row_fine.true))
 
 pub overflow_add-at-in-loop-i-2 : goal.overflow_add-at-in-loop-i-2
 overflow_add-at-in-loop-i-2 c =

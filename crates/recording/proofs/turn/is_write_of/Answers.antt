@@ -21,7 +21,7 @@ pub returns-then-not-equal : goal.returns-then-not-equal
 returns-then-not-equal c =
     let k = c.args.key.now in
     let p = c.args.payload.now in
-    sym (key-other k p (sym c.equal.ensures ∙ not-true c.equal.result c.if-not-equal.true))
+    sym (key-other k p (sym c.equal.ensures ∙ c.if-not-equal.true))
 
 pub returns : goal.returns
 returns c =
@@ -29,4 +29,4 @@ returns c =
     let p = c.args.payload.now in
     rw c.first_nul.ensures
     (sym (key-ends k p
-    (sym c.equal.ensures ∙ not-false c.equal.result c.if-not-equal.false)))
+    (sym c.equal.ensures ∙ c.if-not-equal.false)))

@@ -20,10 +20,20 @@ row c =
 here : (c : In-loop-at) → Here c.args.r.now c.loop-at.at
 here c = row_here c.args.r.now c.loop-at.at (row c)
 
+-- a row begins where the loop stands
+row-2 : (c : After-u24_at-n) → RowAt c.args.r.now c.loop-at.at
+row-2 c =
+    let A = c.args in
+    let l = c.loop-at in
+    look-row A.r.now A.key.now A.until l.at l.w c.requires (omega arith) l.invariant
+
+here-2 : (c : After-u24_at-n) → Here c.args.r.now c.loop-at.at
+here-2 c = row_here c.args.r.now c.loop-at.at (row-2 c)
+
 size : (c : After-u24_at-n)
     → 4 + c.u24_at-n.result
     ≡ row_size (drop c.loop-at.at (rows_of c.args.r.now))
-size c = omega (arith, (here c.UP).size, c.u24_at-n.ensures.value)
+size c = omega (arith, (here-2 c).size, c.u24_at-n.ensures.value)
 
 pub loop-at-init : goal.loop-at-init
 loop-at-init c =

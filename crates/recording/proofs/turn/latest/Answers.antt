@@ -25,14 +25,14 @@ returns-then-not-is_write_of c =
     let A = c.args in
     let e : 16 + A.at + A.n - (16 + A.at) ≡ A.n = omega arith in
     latest-missed A.r.now A.key.now A.at A.n A.w c.requires c.if-r-at-ne4.false
-    (rw e at (sym c.is_write_of.ensures ∙ not-true c.is_write_of.result c.if-not-is_write_of.true))
+    (rw e at (sym c.is_write_of.ensures ∙ c.if-not-is_write_of.true))
 
 pub returns : goal.returns
 returns c =
     let A = c.args in
     let e : 16 + A.at + A.n - (16 + A.at) ≡ A.n = omega arith in
     latest-found A.r.now A.key.now A.at A.n A.w c.requires c.if-r-at-ne4.false
-    (rw e at (sym c.is_write_of.ensures ∙ not-false c.is_write_of.result c.if-not-is_write_of.false))
+    (rw e at (sym c.is_write_of.ensures ∙ c.if-not-is_write_of.false))
 
 pub overflow_add-at : goal.overflow_add-at
 overflow_add-at c = omega (arith, bound (goal.at.overflow_add-at c).Start)

@@ -19,7 +19,7 @@ here : (c : Else-not-is_row)
     → row_fine (drop c.loop-left.at c.args.rows.now)
     ≡ true
 here c =
-    sym c.is_row.ensures ∙ not-false c.is_row.result c.if-not-is_row.false
+    sym c.is_row.ensures ∙ c.if-not-is_row.false
 
 pub loop-left-init : goal.loop-left-init
 loop-left-init c =
@@ -37,7 +37,7 @@ returns-then-not-is_row c =
     record {
       passed = λ e. absurd (true≢false (sym e));
       failed = λ _. rw n at (failed-none L.invariant.1 L.left c.loop-left-test.true
-          (sym c.is_row.ensures ∙ not-true c.is_row.result c.if-not-is_row.true));
+          (sym c.is_row.ensures ∙ c.if-not-is_row.true));
     }
 
 pub key_follows-requires : goal.key_follows-requires
@@ -51,7 +51,7 @@ returns-then-not-key_follows c =
     record {
       passed = λ e. absurd (true≢false (sym e));
       failed = λ _. rw n at (failed-unordered L.invariant.1 L.left c.loop-left-test.true (here (goal.at.returns-then-not-key_follows c).Else-not-is_row)
-          (sym c.key_follows.ensures ∙ not-true c.key_follows.result c.if-not-key_follows.true));
+          (sym c.key_follows.ensures ∙ c.if-not-key_follows.true));
     }
 
 pub size-at-requires : goal.size-at-requires
@@ -72,7 +72,7 @@ loop-left-preserved c =
       omega (arith, L.invariant.0),
       rw c.size-at.ensures
           (rw n at (passed-next L.invariant.1 (here (goal.at.loop-left-preserved c).Else-not-is_row)
-          (sym k.ensures ∙ not-false k.result c.if-not-key_follows.false))),
+          (sym k.ensures ∙ c.if-not-key_follows.false))),
     )
 
 pub returns : goal.returns

@@ -24,8 +24,12 @@ record Read (c : After-u32_at-used) : Type 0 where
   pub used : c.u32_at-used.result ≡ used_of c.args.st.now
   pub row : Gone c.args.st.now c.requires.key c.args.at c.args.old
 
+-- what the row's key lets one know of the numbers
+known-2 : (c : After-u32_at-used) → Gone c.args.st.now c.requires.key c.args.at c.args.old
+known-2 c = gone c.requires.fine c.requires.found c.requires.present
+
 read : (c : After-u32_at-used) → Read c
-read c = record { used = c.u32_at-used.ensures.value; row = known c.UP }
+read c = record { used = c.u32_at-used.ensures.value; row = known-2 c }
 
 pub u32_at-used-requires : goal.u32_at-used-requires
 u32_at-used-requires c = let g = known (goal.at.u32_at-used-requires c).Start in omega arith
@@ -62,24 +66,19 @@ put_head-requires c = let g = read (goal.at.put_head-requires c).After-u32_at-us
 pub returns : goal.returns
 unfolding store_after_write own Rows
 returns c k d =
-    let put-head = c.before.before in
-    let shift = put-head.before.before.before.before in
-    let u32-at2 = shift.before.before in
-    let u32-at = u32-at2.before.before in
-    let begin = u32-at.before.before.before in
-    let st = begin.args.st.now in
-    let at = begin.args.at in
-    let old = begin.args.old in
-    let used = u32-at.u32-at.result in
-    let count = u32-at2.u32-at2.result in
+    let st = c.args.st.now in
+    let at = c.args.at in
+    let old = c.args.old in
+    let used = c.u32_at-used.result in
+    let count = c.u32_at-count.result in
     let behind = used - (at + old) in
     let moved = sets st (8 + at) (part st (8 + at + old) behind) in
-    let g = gone begin.pre.fine d begin.pre.present in
-    let e : put-head.put-head.new.0 ≡ headed moved (at + behind) (count - 1) =
-    put-head.put-head.ensures ∙ ap (λ (x : Bytes). headed x (at + behind) (count - 1)) shift.shift.ensures in
-    let eu : used ≡ used_of st = u32-at.u32-at.ensures.value in
-    let ec : count ≡ count_of st = u32-at2.u32-at2.ensures.value in
+    let g = gone c.requires.fine d c.requires.present in
+    let e : c.put_head.new.st ≡ headed moved (at + behind) (count - 1) =
+    c.put_head.ensures ∙ ap (λ (x : Bytes). headed x (at + behind) (count - 1)) c.shift.ensures in
+    let eu : used ≡ used_of st = c.u32_at-used.ensures.value in
+    let ec : count ≡ count_of st = c.u32_at-count.ensures.value in
     rw e
     (Becomes-write st k none at old behind (8 + at + old) (8 + at) (at + behind) (count - 1) []
-    begin.pre.fine d refl
+    c.requires.fine d refl
     (omega arith) refl (omega arith) (omega arith) (omega (arith, g.count)) (omega arith) (omega arith))

@@ -33,8 +33,15 @@ record Read (c : After-u32_at-used) : Type 0 where
       c.args.at
       c.args.old
 
+-- what the steps need to know, at entry and where the used bytes are read
+at_entry-2 : (c : After-u32_at-used)
+    → Ready c.args.st.now c.args.payload.now c.args.key c.args.at c.args.old
+at_entry-2 c =
+    let a = c.args in
+    ready a.st.now a.payload.now a.key a.at a.old c.requires.writable c.requires.found
+
 read : (c : After-u32_at-used) → Read c
-read c = record { used = c.u32_at-used.ensures.value; known = at_entry c.UP }
+read c = record { used = c.u32_at-used.ensures.value; known = at_entry-2 c }
 
 pub u32_at-used-requires : goal.u32_at-used-requires
 u32_at-used-requires c = let r = at_entry (goal.at.u32_at-used-requires c).Start in omega arith

@@ -76,7 +76,7 @@ fn past_group(pattern: &[u8], at: usize) -> usize
 
 // Walks along the sequence from `at` on, and along the key from `from` on, up to the `|` or `)`
 // that ends the sequence, or to the pattern's end, or past the first element that does not match.
-#[cycle(walk_branches_walk_sequence)]
+#[cycle(walk)]
 pub fn walk_sequence(pattern: &[u8], at: usize, key: &[u8], from: usize) -> Walk
     requires { Short pattern.now key.now at from }
     ensures { WalkedAt pattern.now key.now at from result }
@@ -131,7 +131,7 @@ pub fn walk_sequence(pattern: &[u8], at: usize, key: &[u8], from: usize) -> Walk
 
 // Walks over a group's branches from the one that starts at `at`, each along the key from `from`
 // on, up to the first that matches, and goes past the group.
-#[cycle(walk_branches_walk_sequence)]
+#[cycle(walk)]
 fn walk_branches(pattern: &[u8], at: usize, key: &[u8], from: usize) -> Walk
     requires { Short pattern.now key.now at from }
     ensures { WalkedOverAt pattern.now key.now at from result }

@@ -6,4 +6,4 @@ use Rattle.pattern.proofs.syntax.step_at.Goals as goal
 pub returns : goal.returns
 returns c =
     let x = c.token_at-x.ensures in
-    rw (c.step_of_lem.ensures, c.star_fits-star.ensures) (step-token _ _ _ _ x.on x.within _ x.is)
+    rw (c.step_of.ensures, c.star_fits-star.ensures) (step-token _ _ _ _ x.on x.within _ x.is)

@@ -1,0 +1,12 @@
+use mathlib.Core.Path.{refl}
+use native.Mathlib.Omega.{arith}
+use Rattle.octets.specs.Table.{rows}
+use Rattle.subscriptions.proofs.Removing.{becomes-headed}
+use borrow.Author.Rules.{rules}
+use Rattle.subscriptions.proofs.clear.Goals as goal
+
+pub returns : goal.returns
+unfolding rows
+returns c =
+    let s = c.args.s.now in
+    rw c.put_u32.ensures (becomes-headed s 0 c.requires (omega arith) _ s c.requires refl)

@@ -187,7 +187,7 @@ line_refused (message i p) r e = let z : ◌≡◌ {A = ℕ} 0 1 = cc in absurd 
 
 -- ---- results part by part
 
-pub result_eq : {a b m n v w : ℕ} (o : Bytes) → a ≡ b → m ≡ n → v ≡ w → read_of a m v o ≡ result b n w o
+pub result_eq : {a b m n v w : ℕ} (o : Bytes) → a ≡ b → m ≡ n → v ≡ w → read_of a m v o ≡ read_of b n w o
 result_eq o e f g = cc
 
 pub result-out : {o q : Bytes} (a n w : ℕ) → o ≡ q → read_of a n w o ≡ read_of a n w q

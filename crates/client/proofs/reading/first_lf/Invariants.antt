@@ -1,0 +1,14 @@
+use borrow.Author.Rules.{rules}
+use mathlib.Core.Path.{◌≡◌}
+use Prim.Native.Nat.{◌≤◌, ◌+◌, ◌-◌}
+use native.Mathlib.Omega.{arith}
+use lib.ListN.{length, drop}
+use Rattle.client.specs.Reading.{first_lf}
+use Rattle.client.proofs.ReadLaws.{first_lf-here, first_lf-on, first_lf-none, first_lf-line_end, line_end-le}
+use Rattle.client.proofs.reading.first_lf.Given as goal
+
+abbrev pub invariant-loop-i : goal.invariant-loop-i
+invariant-loop-i l = (l.i ≤ length l.s) × (first_lf l.s ≡ first_lf (drop l.i l.s) + l.i)
+
+abbrev pub decreases-loop-i : goal.decreases-loop-i
+decreases-loop-i l = length l.s - l.i

@@ -1,0 +1,30 @@
+use mathlib.Core.Path.{sym, ap, ◌∙◌}
+use lib.Seq.{length-take-le}
+use Rattle.model.specs.State.{used}
+use Rattle.slot.specs.Promises.{room_of}
+use Rattle.slot.proofs.Slots.{slot_of-used}
+use Rattle.slot.proofs.Operations.{open-client}
+use Rattle.slot.proofs.Resting.{becomes-same, notified-info, notified-same}
+use borrow.Author.Rules.{rules}
+use Rattle.slot.proofs.client.notify_open.Reads as reads
+use Rattle.slot.proofs.client.notify_open.Lts as lts
+use Rattle.slot.proofs.queueing.owe.Reads as owe-reads
+use Rattle.subscriptions.proofs.any_accepts.Reads as any-accepts-reads
+use Rattle.slot.proofs.client.notify_open.Goals as goal
+
+-- src/client.rt:44:48
+pub slice_bounds-any_accepts-end-2 : goal.slice_bounds-any_accepts-end-2
+slice_bounds-any_accepts-end-2 c = sym (length-take-le c.args.key c.args.body.now c.requires.1)
+
+-- src/client.rt:39:1
+pub returns-then-any_accepts : goal.returns-then-any_accepts
+returns-then-any_accepts c =
+    rw (notified-info c.requires.0 (room_of c.args.r c.args.s.now) c.args.body.now c.args.key (sym c.any_accepts.ensures ∙ c.if-any_accepts.true)) c.owe.ensures
+
+-- src/client.rt:39:1
+pub returns-else-any_accepts : goal.returns-else-any_accepts
+returns-else-any_accepts c =
+    let h = c.requires.0 in
+    becomes-same (λ _. h.rules)
+    (slot_of-used c.args.r c.args.s.now (open-client h).taken-up
+    ∙ ap used (sym (notified-same h (room_of c.args.r c.args.s.now) c.args.body.now c.args.key (sym c.any_accepts.ensures ∙ c.if-any_accepts.false))))

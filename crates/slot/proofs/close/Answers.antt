@@ -1,0 +1,9 @@
+use Rattle.slot.proofs.Operations.{becomes-free}
+use borrow.Author.Rules.{rules}
+use Rattle.slot.proofs.close.Reads as reads
+use Rattle.slot.proofs.close.Lts as lts
+use Rattle.slot.proofs.close.Goals as goal
+
+-- src/lib.rt:68:1
+pub returns : goal.returns
+returns c = λ R. becomes-free R c.args.s.now c.requires

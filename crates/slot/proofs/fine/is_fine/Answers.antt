@@ -1,0 +1,17 @@
+use borrow.Author.Tests.{eq-eqb, ne_eqb}
+use Rattle.slot.specs.Region.{phase_of, slot_fine}
+use borrow.Author.Rules.{rules}
+use Rattle.slot.proofs.fine.is_fine.Reads as reads
+use Rattle.slot.proofs.fine.is_fine.Lts as lts
+use Rattle.slot.proofs.fine.client_fine.Reads as client-fine-reads
+use Rattle.slot.proofs.fine.is_fine.Goals as goal
+
+-- src/fine.rt:69:9
+pub returns-then-s-eq0 : goal.returns-then-s-eq0
+unfolding slot_fine
+returns-then-s-eq0 c = rw (eq-eqb (phase_of c.args.s.now) 0 c.if-s-eq0.true)
+
+-- src/fine.rt:64:1
+pub returns : goal.returns
+unfolding slot_fine
+returns c = rw (ne_eqb (phase_of c.args.s.now) 0 c.if-s-eq0.false) c.client_fine.ensures

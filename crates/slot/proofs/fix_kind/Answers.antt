@@ -1,0 +1,12 @@
+use mathlib.Core.Path.{ap, ◌∙◌}
+use Rattle.slot.specs.Region.{kind_byte, hangs_up_in, byte_for}
+use Rattle.slot.proofs.Operations.{says, becomes-kind}
+use borrow.Author.Rules.{rules}
+use Rattle.slot.proofs.fix_kind.Goals as goal
+
+pub returns : goal.returns
+returns c =
+    let A = c.args in
+    λ R h. becomes-kind c.kind_byte.result h
+    (says A.kind (hangs_up_in (kind_byte A.s.now))
+    (c.kind_byte.ensures ∙ ap (byte_for A.kind) c.hangs_up.ensures))

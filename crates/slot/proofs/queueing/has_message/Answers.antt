@@ -1,0 +1,19 @@
+use mathlib.Core.Path.{ap}
+use mathlib.Core.Bool.{not}
+use Rattle.slot.specs.Region.{client_of}
+use Rattle.slot.proofs.Operations.{lent-queue}
+use Rattle.slot.proofs.Resting.{resting-queue-any}
+use borrow.Author.Rules.{rules}
+use Rattle.slot.proofs.queueing.has_message.Reads as reads
+use Rattle.slot.proofs.queueing.has_message.Lts as lts
+use Rattle.queue.proofs.is_empty.Reads as is-empty-reads
+use Rattle.slot.proofs.queueing.has_message.Goals as goal
+
+-- src/queueing.rt:19:6
+pub is_empty-requires : goal.is_empty-requires
+is_empty-requires c = rw (lent-queue c.args.r c.args.s.now) (resting-queue-any c.requires)
+
+-- src/queueing.rt:15:1
+pub returns : goal.returns
+unfolding client_of
+returns c = ap not (rw (lent-queue c.args.r c.args.s.now) at c.is_empty.ensures)

@@ -1,0 +1,20 @@
+use Rattle.message.specs.Writing.{said}
+use Rattle.slot.proofs.Operations.{lent-queue, open-queue}
+use Rattle.slot.proofs.Lent.{lent_owed}
+use borrow.Author.Rules.{rules}
+use Rattle.slot.proofs.queueing.owe.Reads as reads
+use Rattle.slot.proofs.queueing.owe.Lts as lts
+use Rattle.queue.proofs.owe.Reads as owe-reads
+use Rattle.slot.proofs.kind.Reads as kind-reads
+use Rattle.slot.proofs.queueing.owe.Goals as goal
+
+-- src/queueing.rt:45:5
+pub owe-requires : goal.owe-requires
+owe-requires c = rw (lent-queue c.args.r c.args.s.now) (open-queue c.requires.0, c.requires.1)
+
+-- src/queueing.rt:39:1
+pub returns : goal.returns
+returns c =
+    let A = c.args in
+    lent_owed (said A.message A.body.now) c.kind-kind.result c.requires.0 c.kind-kind.ensures
+    (rw (lent-queue A.r A.s.now) at c.owe.ensures)

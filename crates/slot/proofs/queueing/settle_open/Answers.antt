@@ -1,0 +1,32 @@
+use mathlib.Core.Path.{sym, ◌∙◌}
+use native.Mathlib.Omega.{arith}
+use Rattle.queue.proofs.Regions.{in-step-less}
+use Rattle.slot.proofs.Operations.{lent-queue, open-queue, open-client, open-reserve}
+use Rattle.slot.proofs.Lent.{lent-queued}
+use Rattle.slot.proofs.Resting.{settled-refused, settled-queued}
+use borrow.Author.Rules.{rules}
+use Rattle.slot.proofs.queueing.settle_open.Reads as reads
+use Rattle.slot.proofs.queueing.settle_open.Lts as lts
+use Rattle.queue.proofs.is_overflown.Reads as is-overflown-reads
+use Rattle.queue.proofs.settle.Reads as settle-reads
+use Rattle.slot.proofs.queueing.refuse.Reads as refuse-reads
+use Rattle.slot.proofs.queueing.settle_open.Goals as goal
+
+-- src/queueing.rt:67:9
+pub returns-then-is_overflown : goal.returns-then-is_overflown
+returns-then-is_overflown c =
+    rw (settled-refused c.requires (sym (rw (lent-queue c.args.r c.args.s.now) at c.is_overflown.ensures) ∙ c.if-is_overflown.true)) c.refuse.ensures
+
+-- src/queueing.rt:69:5
+pub settle-requires : goal.settle-requires
+settle-requires c =
+    rw (lent-queue c.args.r c.args.s.now)
+    (in-step-less (omega arith) (open-queue c.requires), sym (rw (lent-queue c.args.r c.args.s.now) at c.is_overflown.ensures) ∙ c.if-is_overflown.false)
+
+-- src/queueing.rt:61:1
+pub returns : goal.returns
+returns c =
+    let h = c.requires in
+    let b = rw (lent-queue c.args.r c.args.s.now) at c.settle.ensures in
+    rw (settled-queued h (sym (rw (lent-queue c.args.r c.args.s.now) at c.is_overflown.ensures) ∙ c.if-is_overflown.false))
+    (lent-queued (open-client h) b (rw (open-reserve h) (b.fine 64 (open-queue h)).in_step))

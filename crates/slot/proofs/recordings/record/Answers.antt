@@ -1,0 +1,15 @@
+use Rattle.slot.proofs.Operations.{lent-recording}
+use Rattle.slot.proofs.Lent.{recordable-part, lent-recorded}
+use borrow.Author.Rules.{rules}
+use Rattle.slot.proofs.recordings.record.Reads as reads
+use Rattle.slot.proofs.recordings.record.Lts as lts
+use Rattle.recording.proofs.add.Reads as add_reads
+use Rattle.slot.proofs.recordings.record.Goals as goal
+
+-- src/recordings.rt:50:5
+pub add-requires : goal.add-requires
+add-requires c = rw (lent-recording c.args.r c.args.s.now) (recordable-part c.requires)
+
+-- src/recordings.rt:45:1
+pub returns : goal.returns
+returns c = lent-recorded c.requires (rw (lent-recording c.args.r c.args.s.now) at c.add.ensures)

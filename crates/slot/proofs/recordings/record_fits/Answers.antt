@@ -1,0 +1,15 @@
+use Rattle.slot.proofs.Operations.{lent-recording}
+use Rattle.slot.proofs.Lent.{fits-part}
+use borrow.Author.Rules.{rules}
+use Rattle.slot.proofs.recordings.record_fits.Reads as reads
+use Rattle.slot.proofs.recordings.record_fits.Lts as lts
+use Rattle.recording.proofs.fits.Reads as fits-reads
+use Rattle.slot.proofs.recordings.record_fits.Goals as goal
+
+-- src/recordings.rt:41:5
+pub fits-requires : goal.fits-requires
+fits-requires c = rw (lent-recording c.args.r c.args.s.now) c.requires.rules.recording
+
+-- src/recordings.rt:37:1
+pub returns : goal.returns
+returns c = fits-part c.requires (rw (lent-recording c.args.r c.args.s.now) at c.fits.ensures)

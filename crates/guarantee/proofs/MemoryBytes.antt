@@ -19,7 +19,7 @@ use Rattle.slot.specs.Region.{slot_of, slot_fine}
 use Rattle.memory.specs.Layout.{mark, sizes_of, stride, slots_start, memory_size, store_part}
 use Rattle.memory.specs.Image.{slots_of, image_of}
 use Rattle.memory.specs.Rules.{Headed, all, slots_fine, memory_fine}
-use Rattle.memory.proofs.Sizes.{Ranges, ranges}
+use Rattle.memory.proofs.SizeLaws.{Ranges, ranges}
 use Rattle.memory.proofs.Fine.{headed-head_fine}
 use Rattle.infod3.specs.Infod3.{infod3}
 use Rattle.refinement.specs.Represents.{in_rows, state_image}

@@ -1,4 +1,4 @@
-pub mod Sizes
+pub mod SizeLaws
 pub mod Updates
 pub mod Fresh
 pub mod Lent

@@ -29,7 +29,7 @@ use Rattle.slot.specs.Image.{ClientImage, owed}
 use Rattle.memory.specs.Layout.{sizes_of, store_part}
 use Rattle.memory.specs.Image.{image_of}
 use Rattle.memory.specs.Rules.{Sound}
-use Rattle.memory.proofs.Sizes.{ranges}
+use Rattle.memory.proofs.SizeLaws.{ranges}
 use Rattle.step.specs.TurnParts.{row_from, entry_key, entry_body, Copied}
 
 -- ---- bodies

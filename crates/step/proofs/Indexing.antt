@@ -19,7 +19,7 @@ use Rattle.store.proofs.Indexing.{indexes-moved, indexes-movable}
 use Rattle.memory.specs.Layout.{sizes_of}
 use Rattle.memory.specs.Image.{Image, image_of, with_store}
 use Rattle.memory.specs.Rules.{Becomes}
-use Rattle.memory.proofs.Sizes.{ranges}
+use Rattle.memory.proofs.SizeLaws.{ranges}
 use Rattle.refinement.specs.Turn.{after_turn}
 use Rattle.commit.specs.Tally.{written_size}
 use Rattle.commit.proofs.Parts.{written_size-charge, written_size-le}

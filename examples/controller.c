@@ -4,7 +4,7 @@
  * holds slot 0, subscribes to site.7.state there, and stops or starts its loading line by it. SIGINT
  * and SIGTERM end it. The server in host/infod3d does the same with more care (docs/server.md).
  *
- * cc -std=c99 -I ../include controller.c ../target/staticlib/libffi.a -o controller
+ * cc -std=c99 -I ../include controller.c ../crates/ffi/out/libffi.a -o controller
  */
 #define _POSIX_C_SOURCE 200809L
 

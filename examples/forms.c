@@ -3,7 +3,7 @@
  * A client writes each command with infod3_write_command; a broker beside it is fed that, and what the
  * broker then gives is read with infod3_read_message. In every form that has to be the same message.
  *
- * cc -std=c99 -I ../include forms.c ../target/staticlib/libffi.a -o forms
+ * cc -std=c99 -I ../include forms.c ../crates/ffi/out/libffi.a -o forms
  */
 #include <infod3.h>
 

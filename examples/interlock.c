@@ -7,7 +7,7 @@
  * runs only while site.SITE.state is clear, and while the server has answered within SECONDS. Without
  * a connection the line stops and another one is tried, for ever.
  *
- * cc -std=c99 -I ../include interlock.c ../target/staticlib/libffi.a -o interlock
+ * cc -std=c99 -I ../include interlock.c ../crates/ffi/out/libffi.a -o interlock
  */
 #define _POSIX_C_SOURCE 200809L
 

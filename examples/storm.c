@@ -1,6 +1,6 @@
 /* storm.c: the library without sockets. A feed reports of a storm, a site's controller receives it.
  *
- * cc -std=c99 -I ../include storm.c ../target/staticlib/libffi.a -o storm
+ * cc -std=c99 -I ../include storm.c ../crates/ffi/out/libffi.a -o storm
  */
 #include <infod3.h>
 

@@ -118,8 +118,8 @@
 //!
 //! # Linking
 //!
-//! The build links the archive `libffi.a`, from target/staticlib of the repository (where
-//! `rt staticlib ffi` writes it) or from the folder that INFOD3_ARCHIVE names.
+//! The build links the archive `libffi.a`, from crates/ffi/out of the repository (where `rt lib`
+//! in crates/ffi writes it) or from the folder that INFOD3_ARCHIVE names.
 
 #![deny(unsafe_code)]
 #![warn(missing_docs)]

@@ -1,57 +1,59 @@
 // Words, numbers and columns on standard output.
-use libc::STDOUT_FILENO;
+use std::io;
 
 // Writes the text.
-pub fn put(text: &[u8]) {
-    io::write_all(STDOUT_FILENO, text);
+pub fn put(rt: &impl Print, text: &[u8]) -> io::Result<()> {
+    rt.write_all(text)
 }
 
 // Writes n in decimal.
-pub fn number(n: u64) {
-    io::print_decimal(STDOUT_FILENO, n);
+pub fn number(rt: &impl Print, n: u64) -> io::Result<()> {
+    rt.print(n)
 }
 
 // Writes n spaces, and none where n is over 32.
-fn spaces(n: usize) {
+fn spaces(rt: &impl Print, n: usize) -> io::Result<()> {
     let room = [b' '; 32];
     if n <= 32 {
-        put(&room[..n]);
+        put(rt, &room[..n])?;
     }
+    Ok(())
 }
 
 // Writes spaces up to a width from what is `used` of it.
-fn fill(used: usize, width: usize) {
+fn fill(rt: &impl Print, used: usize, width: usize) -> io::Result<()> {
     if used < width {
-        spaces(width - used);
+        spaces(rt, width - used)?;
     }
+    Ok(())
 }
 
 // Writes the text in quotes, and spaces where it is shorter than `width`.
-pub fn quoted(text: &[u8], width: usize) {
-    put(b"\"");
-    put(text);
-    put(b"\"");
-    fill(text.len(), width);
+pub fn quoted(rt: &impl Print, text: &[u8], width: usize) -> io::Result<()> {
+    put(rt, b"\"")?;
+    put(rt, text)?;
+    put(rt, b"\"")?;
+    fill(rt, text.len(), width)
 }
 
 // Writes yes or no and the steps.
-pub fn outcome(matched: bool, steps: usize) {
+pub fn outcome(rt: &impl Print, matched: bool, steps: usize) -> io::Result<()> {
     if matched {
-        put(b"  yes ");
+        put(rt, b"  yes ")?;
     } else {
-        put(b"  no  ");
+        put(rt, b"  no  ")?;
     }
     if steps < 10 {
-        put(b" ");
+        put(rt, b" ")?;
     }
-    number(steps as u64);
+    number(rt, steps as u64)
 }
 
 // Writes whether what was computed is what the paper says, and ends the line.
-pub fn verdict(agrees: bool) {
+pub fn verdict(rt: &impl Print, agrees: bool) -> io::Result<()> {
     if agrees {
-        put(b"  ok\n");
+        put(rt, b"  ok\n")
     } else {
-        put(b"  DIFFERS\n");
+        put(rt, b"  DIFFERS\n")
     }
 }

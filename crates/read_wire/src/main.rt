@@ -16,9 +16,11 @@ ghost use Rattle.std.specs.Prelude.{◌≤◌, length};
 use framing::kind_of;
 use protocol::Kind;
 use show::put;
+use std::io;
+use std::io::Read;
 
 // Shows the messages of an input one after the other.
-fn show_stream(input: &[u8], buf: &mut [u8]) {
+fn show_stream(rt: &impl Print, input: &[u8], buf: &mut [u8]) -> io::Result<()> {
     let mut at = 0;
     let mut kind = Kind::Stream;
     while at < input.len() {
@@ -26,66 +28,72 @@ fn show_stream(input: &[u8], buf: &mut [u8]) {
         let m = wire::cut(kind, rest);
         let n = m.len();
         if n == 0 {
-            show::wait(rest.len());
-            return;
+            return show::wait(rt, rest.len());
         }
         let next = kind_of(kind, rest);
-        let good = show::message(next, m, buf);
+        let good = show::message(rt, next, m, buf)?;
         if good {
             kind = next;
             if n <= input.len() - at {
                 at += n;
             } else {
-                return;
+                return Ok(());
             }
         } else {
-            return;
+            return Ok(());
         }
     }
+    Ok(())
 }
 
 // Shows the first n bytes of an input: one packet, or a stream.
-fn show_front(packet: bool, input: &[u8], n: usize, buf: &mut [u8])
+fn show_front(
+    rt: &impl Print,
+    packet: bool,
+    input: &[u8],
+    n: usize,
+    buf: &mut [u8],
+) -> io::Result<()>
     requires { n ≤ length input.now }
 {
     let front = &input[..n];
     if packet {
-        show::message(Kind::Packets, front, buf);
+        show::message(rt, Kind::Packets, front, buf)?;
+        Ok(())
     } else {
-        show_stream(front, buf);
+        show_stream(rt, front, buf)
     }
 }
 
 // Shows the input that s stands for.
-fn show_input(packet: bool, s: &[u8]) {
+fn show_input(rt: &impl Print, packet: bool, s: &[u8]) -> io::Result<()> {
     let mut input = [0u8; 300000];
     let mut buf = [0u8; 262152];
     let n = script::expand(s, &mut input);
-    show_front(packet, &input, n, &mut buf);
+    show_front(rt, packet, &input, n, &mut buf)
 }
 
 // Shows one client, whose line begins with the digit of its form and a space.
-fn show_client(line: &[u8]) {
-    put(line);
-    put(b"\n");
+fn show_client(rt: &impl Print, line: &[u8]) -> io::Result<()> {
+    put(rt, line)?;
+    put(rt, b"\n")?;
     if line.len() < 2 {
-        return;
+        return Ok(());
     }
     let first = line[0];
-    show_input(first == b'0', &line[2..]);
+    show_input(rt, first == b'0', &line[2..])
 }
 
 // Shows a line of the input: a client, or a comment.
-fn show_line(line: &[u8]) {
+fn show_line(rt: &impl Print, line: &[u8]) -> io::Result<()> {
     if line.len() == 0 {
-        put(b"\n");
-        return;
+        return put(rt, b"\n");
     }
     if line[0] == b'#' {
-        put(line);
-        put(b"\n");
+        put(rt, line)?;
+        put(rt, b"\n")
     } else {
-        show_client(line);
+        show_client(rt, line)
     }
 }
 
@@ -105,17 +113,18 @@ fn line_end(text: &[u8], at: usize) -> usize
 }
 
 // Shows each line of the text.
-fn show_lines(text: &[u8]) {
+fn show_lines(rt: &impl Print, text: &[u8]) -> io::Result<()> {
     let mut i = 0;
     while i < text.len() {
         let e = line_end(text, i);
-        show_line(&text[i..e]);
+        show_line(rt, &text[i..e])?;
         i = e + 1;
     }
+    Ok(())
 }
 
-fn main() {
-    let mut text = io::large_buffer();
-    let n = io::read_full(0, &mut text);
-    show_lines(&text[..n]);
+fn main(rt: HostRuntime) -> io::Result<()> {
+    let mut text = Vec::new(rt.alloc());
+    rt.reader().read_to_end(&mut text)?;
+    show_lines(&rt, &text)
 }

@@ -1,17 +1,17 @@
 // Messages and their fields on standard output.
 use command::{Command, Written};
-use libc::STDOUT_FILENO;
 use protocol::Kind;
+use std::io;
 use wire::Reading;
 
 // Writes the text.
-pub fn put(text: &[u8]) {
-    io::write_all(STDOUT_FILENO, text);
+pub fn put(rt: &impl Print, text: &[u8]) -> io::Result<()> {
+    rt.write_all(text)
 }
 
 // Writes n in decimal.
-fn number(n: usize) {
-    io::print_decimal(STDOUT_FILENO, n as u64);
+fn number(rt: &impl Print, n: usize) -> io::Result<()> {
+    rt.print(n)
 }
 
 fn wide(b: u8) -> usize {
@@ -19,21 +19,21 @@ fn wide(b: u8) -> usize {
 }
 
 // Writes one byte.
-fn byte(b: u8) {
+fn byte(rt: &impl Print, b: u8) -> io::Result<()> {
     let one = [b];
-    io::write_all(STDOUT_FILENO, &one);
+    rt.write_all(&one)
 }
 
 // Writes a byte of a string: a printing one as it is, another, a quote or a backslash in octal.
-fn shown(b: u8) {
+fn shown(rt: &impl Print, b: u8) -> io::Result<()> {
     let plain = is_plain(b);
     if plain {
-        byte(b);
+        byte(rt, b)
     } else {
-        put(b"\\");
-        byte(b'0' + b / 64);
-        byte(b'0' + b / 8 % 8);
-        byte(b'0' + b % 8);
+        put(rt, b"\\")?;
+        byte(rt, b'0' + b / 64)?;
+        byte(rt, b'0' + b / 8 % 8)?;
+        byte(rt, b'0' + b % 8)
     }
 }
 
@@ -47,110 +47,113 @@ fn is_plain(b: u8) -> bool {
 }
 
 // Writes a string in quotes: its first 24 bytes, and its length where it is longer.
-fn string(s: &[u8]) {
-    put(b" \"");
+fn string(rt: &impl Print, s: &[u8]) -> io::Result<()> {
+    put(rt, b" \"")?;
     let n = octets::min(24, s.len());
     let mut i = 0;
     while i < n {
-        shown(s[i]);
+        shown(rt, s[i])?;
         i += 1;
     }
-    put(b"\"");
+    put(rt, b"\"")?;
     if 24 < s.len() {
-        put(b".. ");
-        number(s.len());
+        put(rt, b".. ")?;
+        number(rt, s.len())?;
     }
+    Ok(())
 }
 
 // Writes how many bytes wait for more.
-pub fn wait(n: usize) {
-    put(b"  wait ");
-    number(n);
-    put(b"\n");
+pub fn wait(rt: &impl Print, n: usize) -> io::Result<()> {
+    put(rt, b"  wait ")?;
+    number(rt, n)?;
+    put(rt, b"\n")
 }
 
-fn kind_word(kind: Kind) {
+fn kind_word(rt: &impl Print, kind: Kind) -> io::Result<()> {
     match kind {
-        Kind::Packets => put(b"  packet "),
-        Kind::Stream => put(b"  stream "),
-        Kind::Framed => put(b"  frame "),
-        Kind::Text => put(b"  text "),
+        Kind::Packets => put(rt, b"  packet "),
+        Kind::Stream => put(rt, b"  stream "),
+        Kind::Framed => put(rt, b"  frame "),
+        Kind::Text => put(rt, b"  text "),
     }
 }
 
 // Writes a HELLO's version and its text.
-fn hello(p: &[u8]) {
-    put(b" HELLO");
+fn hello(rt: &impl Print, p: &[u8]) -> io::Result<()> {
+    put(rt, b" HELLO")?;
     if 0 < p.len() {
-        put(b" ");
-        number(wide(p[0]));
-        string(&p[1..]);
+        put(rt, b" ")?;
+        number(rt, wide(p[0]))?;
+        string(rt, &p[1..])?;
     }
+    Ok(())
 }
 
 // Writes a WRITE's key and its value.
-fn written(p: &[u8], key: usize, w: Written) {
-    put(b" WRITE");
+fn written(rt: &impl Print, p: &[u8], key: usize, w: Written) -> io::Result<()> {
+    put(rt, b" WRITE")?;
     if key <= p.len() {
-        string(&p[..key]);
+        string(rt, &p[..key])?;
     }
     match w {
-        Written::Delete => put(b" deleted"),
+        Written::Delete => put(rt, b" deleted"),
         Written::Value { start, len: _ } => {
             if start <= p.len() {
-                string(&p[start..]);
+                string(rt, &p[start..])?;
             }
+            Ok(())
         }
     }
 }
 
 // Writes a command and its payload. Gives false for a refusal.
-fn command(c: Command, p: &[u8]) -> bool {
+fn command(rt: &impl Print, c: Command, p: &[u8]) -> io::Result<bool> {
     match c {
-        Command::Hello => hello(p),
-        Command::Sub => named(b" SUB", p),
-        Command::Unsub => named(b" UNSUB", p),
-        Command::Read => named(b" READ", p),
-        Command::Write { key, written: w } => written(p, key, w),
-        Command::Begin => put(b" BEGIN"),
-        Command::Commit => put(b" COMMIT"),
-        Command::Ping => named(b" PING", p),
+        Command::Hello => hello(rt, p)?,
+        Command::Sub => named(rt, b" SUB", p)?,
+        Command::Unsub => named(rt, b" UNSUB", p)?,
+        Command::Read => named(rt, b" READ", p)?,
+        Command::Write { key, written: w } => written(rt, p, key, w)?,
+        Command::Begin => put(rt, b" BEGIN")?,
+        Command::Commit => put(rt, b" COMMIT")?,
+        Command::Ping => named(rt, b" PING", p)?,
         Command::Refused(r) => {
-            put(b" refused ");
-            number(protocol::number(r) as usize);
-            return false;
+            put(rt, b" refused ")?;
+            number(rt, protocol::number(r) as usize)?;
+            return Ok(false);
         }
     }
-    true
+    Ok(true)
 }
 
 // Writes a word and a string.
-fn named(word: &[u8], s: &[u8]) {
-    put(word);
-    string(s);
+fn named(rt: &impl Print, word: &[u8], s: &[u8]) -> io::Result<()> {
+    put(rt, word)?;
+    string(rt, s)
 }
 
 // Writes what a message is. Gives false for a refusal.
-pub fn message(kind: Kind, m: &[u8], buf: &mut [u8]) -> bool {
-    kind_word(kind);
-    number(m.len());
-    put(b":");
-    let good = reading(kind, m, buf);
-    put(b"\n");
-    good
+pub fn message(rt: &impl Print, kind: Kind, m: &[u8], buf: &mut [u8]) -> io::Result<bool> {
+    kind_word(rt, kind)?;
+    number(rt, m.len())?;
+    put(rt, b":")?;
+    let good = reading(rt, kind, m, buf)?;
+    put(rt, b"\n")?;
+    Ok(good)
 }
 
-fn reading(kind: Kind, m: &[u8], buf: &mut [u8]) -> bool {
+fn reading(rt: &impl Print, kind: Kind, m: &[u8], buf: &mut [u8]) -> io::Result<bool> {
     let r = wire::read(kind, m, buf);
     match r {
         Reading::Blank => {
-            put(b" blank");
-            true
+            put(rt, b" blank")?;
+            Ok(true)
         }
         Reading::Short => {
-            put(b" too long for the buffer");
-            false
+            put(rt, b" too long for the buffer")?;
+            Ok(false)
         }
-        Reading::Command(c, n) => command(c, wire::payload(kind, m, buf, n)),
+        Reading::Command(c, n) => command(rt, c, wire::payload(kind, m, buf, n)),
     }
 }

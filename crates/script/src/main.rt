@@ -6,42 +6,44 @@
 
 ghost use Rattle.std.specs.Prelude.{◌≤◌, ◌<◌, length};
 
-use libc::STDOUT_FILENO;
+use std::io;
+use std::io::Read;
 
 // Prints the digit of a slot, a space and a message.
-fn print_message(slot: u8, message: &[u8]) {
+fn print_message(rt: &impl Print, slot: u8, message: &[u8]) -> io::Result<()> {
     let head = [b'0' + slot % 10, b' '];
-    io::write_all(STDOUT_FILENO, &head);
-    io::write_all(STDOUT_FILENO, message);
+    rt.write_all(&head)?;
+    rt.write_all(message)
 }
 
 // Takes the first message of a slot into out and prints it. Gives false where none was taken.
-fn print_first(mem: &mut [u8], slot: u8, out: &mut [u8]) -> bool {
+fn print_first(rt: &impl Print, mem: &mut [u8], slot: u8, out: &mut [u8]) -> io::Result<bool> {
     let reply = broker::take(mem, slot as usize, out);
     if reply.answer != 0 {
-        return false;
+        return Ok(false);
     }
     let n = octets::min(reply.count, out.len());
-    print_message(slot, &out[..n]);
-    true
+    print_message(rt, slot, &out[..n])?;
+    Ok(true)
 }
 
 // Takes and prints all messages of a slot by way of out. A queue of 1,024 bytes holds at most 256,
 // since each charges 4 and its length.
-fn print_all(mem: &mut [u8], slot: u8, out: &mut [u8]) {
+fn print_all(rt: &impl Print, mem: &mut [u8], slot: u8, out: &mut [u8]) -> io::Result<()> {
     let mut left: usize = 256;
     while 0 < left {
-        if !print_first(mem, slot, out) {
-            return;
+        if !print_first(rt, mem, slot, out)? {
+            return Ok(());
         }
         left -= 1;
     }
+    Ok(())
 }
 
 // Takes and prints all messages of a slot.
-fn print_queue(mem: &mut [u8], slot: u8) {
+fn print_queue(rt: &impl Print, mem: &mut [u8], slot: u8) -> io::Result<()> {
     let mut out = [0u8; 1024];
-    print_all(mem, slot, &mut out);
+    print_all(rt, mem, slot, &mut out)
 }
 
 // Feeds a line, which has its LF, to the slot of its digit.
@@ -69,23 +71,24 @@ fn line_end(text: &[u8], at: usize) -> usize
 }
 
 // Feeds each line of the text, and prints all messages after it.
-fn run(mem: &mut [u8], text: &[u8]) {
+fn run(rt: &impl Print, mem: &mut [u8], text: &[u8]) -> io::Result<()> {
     let mut at = 0;
     while at < text.len() {
         let end = line_end(text, at);
         feed_line(mem, &text[at..end]);
-        print_queue(mem, 0);
-        print_queue(mem, 1);
+        print_queue(rt, mem, 0)?;
+        print_queue(rt, mem, 1)?;
         at = end;
     }
+    Ok(())
 }
 
-fn main() {
-    let mut text = io::large_buffer();
-    let n = io::read_full(0, &mut text);
+fn main(rt: HostRuntime) -> io::Result<()> {
+    let mut text = Vec::new(rt.alloc());
+    rt.reader().read_to_end(&mut text)?;
     let mut mem = [0u8; 16384];
     broker::set_up(&mut mem, 2, 1024, 1024, 256);
     broker::open(&mut mem, 0, 1);
     broker::open(&mut mem, 1, 1);
-    run(&mut mem, &text[..n]);
+    run(&rt, &mut mem, &text)
 }

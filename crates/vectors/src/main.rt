@@ -20,6 +20,9 @@ mod show;
 
 ghost use Rattle.std.specs.Prelude.{◌≤◌, length};
 
+use std::io;
+use std::io::Read;
+
 // A number of a line, and where the next word begins.
 #[derive(Clone, Copy)]
 struct Number {
@@ -43,54 +46,62 @@ fn number_at(line: &[u8], at: usize) -> Number {
 }
 
 // Sets up with the four sizes from `at` on.
-fn set_up(mem: &mut [u8], line: &[u8], at: usize) {
+fn set_up(rt: &impl Print, mem: &mut [u8], line: &[u8], at: usize) -> io::Result<()> {
     let n = number_at(line, at);
     let s = number_at(line, n.next);
     let q = number_at(line, s.next);
     let r = number_at(line, q.next);
-    show::reply(broker::set_up(mem, n.value, s.value, q.value, r.value));
+    show::reply(rt, broker::set_up(mem, n.value, s.value, q.value, r.value))
 }
 
 // Feeds the input that s stands for to a slot, by way of input.
-fn feed_expanded(mem: &mut [u8], slot: usize, s: &[u8], input: &mut [u8]) {
+fn feed_expanded(
+    rt: &impl Print,
+    mem: &mut [u8],
+    slot: usize,
+    s: &[u8],
+    input: &mut [u8],
+) -> io::Result<()> {
     let n = expand::expand(s, input);
-    show::reply(broker::feed(mem, slot, &input[..n]));
+    show::reply(rt, broker::feed(mem, slot, &input[..n]))
 }
 
 // Feeds the input from `at` on to a slot.
-fn feed(mem: &mut [u8], slot: usize, line: &[u8], at: usize) {
+fn feed(rt: &impl Print, mem: &mut [u8], slot: usize, line: &[u8], at: usize) -> io::Result<()> {
     let mut input = [0u8; 300000];
     let from = octets::min(at, line.len());
-    feed_expanded(mem, slot, &line[from..], &mut input);
+    feed_expanded(rt, mem, slot, &line[from..], &mut input)
 }
 
 // Takes a message into out, and shows it. Gives the answer.
-fn take_into(mem: &mut [u8], slot: usize, out: &mut [u8]) -> u32 {
+fn take_into(rt: &impl Print, mem: &mut [u8], slot: usize, out: &mut [u8]) -> io::Result<u32> {
     let reply = broker::take(mem, slot, out);
     show::written(
+        rt,
         reply.answer,
         reply.count,
         octets::front(&out[..], reply.count),
-    );
-    reply.answer
+    )?;
+    Ok(reply.answer)
 }
 
 // Takes a message into n of 65,536 bytes, and shows it. Gives the answer.
-fn take(mem: &mut [u8], slot: usize, n: usize) -> u32 {
+fn take(rt: &impl Print, mem: &mut [u8], slot: usize, n: usize) -> io::Result<u32> {
     let mut out = [0u8; 65536];
     let room = octets::min(n, 65536);
-    take_into(mem, slot, &mut out[..room])
+    take_into(rt, mem, slot, &mut out[..room])
 }
 
 // Takes all messages of a slot.
-fn take_all(mem: &mut [u8], slot: usize) {
+fn take_all(rt: &impl Print, mem: &mut [u8], slot: usize) -> io::Result<()> {
     let mut left: usize = 1024;
     while 0 < left {
-        if take(mem, slot, 65536) != 0 {
-            return;
+        if take(rt, mem, slot, 65536)? != 0 {
+            return Ok(());
         }
         left -= 1;
     }
+    Ok(())
 }
 
 // Stores a byte in the memory.
@@ -101,25 +112,29 @@ fn poke(mem: &mut [u8], at: usize, b: usize) {
 }
 
 // Makes the call of a line, whose slot is a number from `at` on.
-fn call(mem: &mut [u8], line: &[u8], at: usize)
+fn call(rt: &impl Print, mem: &mut [u8], line: &[u8], at: usize) -> io::Result<()>
     requires { 1 ≤ length line.now }
 {
     let c = line[0];
     let slot = number_at(line, at);
     let more = number_at(line, slot.next);
     match c {
-        b's' => set_up(mem, line, at),
-        b'o' => show::reply(broker::open(mem, slot.value, more.value)),
-        b'f' => feed(mem, slot.value, line, slot.next),
+        b's' => set_up(rt, mem, line, at),
+        b'o' => show::reply(rt, broker::open(mem, slot.value, more.value)),
+        b'f' => feed(rt, mem, slot.value, line, slot.next),
         b't' => {
-            take(mem, slot.value, more.value);
+            take(rt, mem, slot.value, more.value)?;
+            Ok(())
         }
-        b'a' => take_all(mem, slot.value),
-        b'c' => show::reply(broker::close(mem, slot.value)),
-        b'p' => poke(mem, slot.value, more.value),
-        b'w' => client_side::write(slot.value, more.value, octets::tail(line, more.next)),
-        b'r' => client_side::read(slot.value, more.value, octets::tail(line, more.next)),
-        _ => show::put(b"  ?\n"),
+        b'a' => take_all(rt, mem, slot.value),
+        b'c' => show::reply(rt, broker::close(mem, slot.value)),
+        b'p' => {
+            poke(mem, slot.value, more.value);
+            Ok(())
+        }
+        b'w' => client_side::write(rt, slot.value, more.value, octets::tail(line, more.next)),
+        b'r' => client_side::read(rt, slot.value, more.value, octets::tail(line, more.next)),
+        _ => show::put(rt, b"  ?\n"),
     }
 }
 
@@ -136,15 +151,16 @@ fn word_end(line: &[u8]) -> usize {
 }
 
 // Shows a line, and makes its call.
-fn run_line(mem: &mut [u8], line: &[u8]) {
-    show::put(line);
-    show::put(b"\n");
+fn run_line(rt: &impl Print, mem: &mut [u8], line: &[u8]) -> io::Result<()> {
+    show::put(rt, line)?;
+    show::put(rt, b"\n")?;
     if line.len() == 0 {
-        return;
+        return Ok(());
     }
     if line[0] != b'#' {
-        call(mem, line, word_end(line));
+        call(rt, mem, line, word_end(line))?;
     }
+    Ok(())
 }
 
 // Where the line that begins at `at` ends.
@@ -163,18 +179,19 @@ fn line_end(text: &[u8], at: usize) -> usize
 }
 
 // Runs each line of the text.
-fn run(mem: &mut [u8], text: &[u8]) {
+fn run(rt: &impl Print, mem: &mut [u8], text: &[u8]) -> io::Result<()> {
     let mut at = 0;
     while at < text.len() {
         let end = line_end(text, at);
-        run_line(mem, &text[at..end]);
+        run_line(rt, mem, &text[at..end])?;
         at = end + 1;
     }
+    Ok(())
 }
 
-fn main() {
-    let mut text = io::large_buffer();
-    let n = io::read_full(0, &mut text);
+fn main(rt: HostRuntime) -> io::Result<()> {
+    let mut text = Vec::new(rt.alloc());
+    rt.reader().read_to_end(&mut text)?;
     let mut mem = [0u8; 65536];
-    run(&mut mem, &text[..n]);
+    run(&rt, &mut mem, &text)
 }

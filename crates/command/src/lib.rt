@@ -37,6 +37,7 @@ pub enum Command {
 }
 
 // c, or no room where the payload p passes 65,535 bytes.
+#[tactic(auto, unfolding(crate::specs::Commands::fitting))]
 fn fitting(p: &[u8], c: Command) -> Command
     ensures { result ≡ Commands.fitting p.now c }
 {
@@ -59,6 +60,7 @@ fn hello_of(p: &[u8]) -> Command
 
 // c, SUB or UNSUB, of the pattern p: a NUL or an invalid pattern is a bad parameter, then one over
 // 255 bytes is no room.
+#[tactic(auto, unfolding(crate::specs::Commands::pattern_of))]
 fn pattern_of(p: &[u8], c: Command) -> Command
     ensures { result ≡ pattern_of p.now c }
 {
@@ -77,6 +79,7 @@ fn pattern_of(p: &[u8], c: Command) -> Command
 }
 
 // READ of the key p, in which a NUL is a bad parameter.
+#[tactic(auto, unfolding(crate::specs::Commands::read_of))]
 fn read_of(p: &[u8]) -> Command
     ensures { result ≡ read_of p.now }
 {
@@ -89,6 +92,7 @@ fn read_of(p: &[u8]) -> Command
 }
 
 // What stands behind a key of n bytes in the payload p.
+#[tactic(auto, unfolding(crate::specs::Commands::written_of))]
 fn written_of(p: &[u8], n: usize) -> Written
     requires { n ≤ length p.now }
     ensures { result ≡ written_of n (length p.now) }
@@ -114,6 +118,7 @@ pub fn split(p: &[u8]) -> Parts
 }
 
 // WRITE, by the parts of its payload.
+#[tactic(auto, unfolding(crate::specs::Commands::write_of))]
 fn write_of(p: &[u8]) -> Command
     ensures { result ≡ write_of p.now }
 {
@@ -136,6 +141,7 @@ fn empty_of(p: &[u8], c: Command) -> Command
 
 // The command that an ID and a payload are, or why it is refused: an unknown ID, then a bad
 // parameter, then a payload or pattern that is too long.
+#[tactic(auto, unfolding(crate::specs::Commands::command_of))]
 pub fn read(id: u8, payload: &[u8]) -> Command
     ensures { result ≡ command_of id payload.now }
 {

@@ -1,7 +1,6 @@
 -- `pattern::accepts` meets its contract.
 use Rattle.pattern.proofs.Answers.{accepted-long, accepted-ran}
 use mathlib.Core.Path.{sym, ◌∙◌}
-use borrow.Author.Rules.{rules}
 use Rattle.pattern.proofs.accepts.Goals as goal
 
 pub returns-then-is_too_long : goal.returns-then-is_too_long

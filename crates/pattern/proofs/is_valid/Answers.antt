@@ -2,7 +2,6 @@
 use Rattle.pattern.specs.Checking.{tokens_at}
 use Rattle.pattern.specs.Syntax.{valid}
 use mathlib.Core.Path.{sym}
-use borrow.Author.Rules.{rules}
 use Rattle.pattern.proofs.is_valid.Goals as goal
 
 pub returns-in-Upto : goal.returns-in-Upto

@@ -2,7 +2,6 @@
 use Rattle.pattern.proofs.Answers.{answer-invalid, answer-long, answer-ran}
 use Rattle.pattern.proofs.Laws.{matched}
 use mathlib.Core.Path.{sym, ◌∙◌}
-use borrow.Author.Rules.{rules}
 use Rattle.pattern.proofs.matches.Goals as goal
 
 pub returns-then-not-is_valid : goal.returns-then-not-is_valid

@@ -3,7 +3,6 @@ use native.Mathlib.Omega.{arith}
 use Rattle.subscriptions.specs.Region.{count_of}
 use Rattle.subscriptions.proofs.Cells.{fine-rules}
 use Rattle.subscriptions.proofs.Removing.{add-held, add-new}
-use borrow.Author.Rules.{rules}
 use Rattle.subscriptions.proofs.add.Goals as goal
 
 pub returns-then-is_held : goal.returns-then-is_held

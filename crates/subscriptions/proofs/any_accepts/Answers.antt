@@ -1,12 +1,10 @@
 use mathlib.Core.Path.{◌≡◌, sym, ap, ◌∙◌}
-use Prim.Native.Nat.{◌-◌}
 use native.Mathlib.Omega.{arith}
-use borrow.Author.Rules.{rules}
 use Rattle.octets.specs.Octets.{Bytes}
 use Rattle.pattern.specs.Answer.{accepted}
 use Rattle.subscriptions.specs.Region.{cell_at, patterns_of}
 use Rattle.subscriptions.proofs.Cells.{fine-rules, length-patterns_of}
-use Rattle.subscriptions.proofs.Lists.{Scanned, any-subscribed, scan-start, scan-found, scan-next, scan-end}
+use Rattle.subscriptions.proofs.Lists.{any-subscribed, scan-start, scan-found, scan-next, scan-end}
 use Rattle.subscriptions.proofs.any_accepts.Goals as goal
 use Rattle.subscriptions.proofs.any_accepts.Goals.{After-accepts}
 
@@ -54,9 +52,3 @@ returns c =
     sym (sym (any-subscribed A.key.now (patterns_of s))
     ∙ scan-end (λ p. accepted p A.key.now) s c.count-n.result c.loop-i.i
     c.loop-i.invariant (omega arith))
-
-pub overflow_add-i : goal.overflow_add-i
-overflow_add-i c = omega arith
-
-pub loop-i-smaller : goal.loop-i-smaller
-loop-i-smaller c = omega arith

@@ -2,7 +2,6 @@ use mathlib.Core.Path.{refl}
 use native.Mathlib.Omega.{arith}
 use Rattle.octets.specs.Table.{rows}
 use Rattle.subscriptions.proofs.Removing.{becomes-headed}
-use borrow.Author.Rules.{rules}
 use Rattle.subscriptions.proofs.clear.Goals as goal
 
 pub returns : goal.returns

@@ -3,7 +3,6 @@ use Prim.Native.Nat.{ℕ}
 use lib.Dec.{leb}
 use borrow.Author.Tests.{eq-eqb, ne_eqb}
 use Rattle.subscriptions.specs.Region.{count_of, subscriptions_fine}
-use borrow.Author.Rules.{rules}
 use Rattle.subscriptions.proofs.is_fine.Goals as goal
 
 pub returns-then-s-ne4100 : goal.returns-then-s-ne4100

@@ -1,11 +1,9 @@
 use mathlib.Core.Path.{◌≡◌, sym, ap, ◌∙◌}
-use Prim.Native.Nat.{◌-◌}
 use native.Mathlib.Omega.{arith}
-use borrow.Author.Rules.{rules}
 use Rattle.octets.specs.Order.{same}
 use Rattle.subscriptions.specs.Region.{cell_at, patterns_of}
 use Rattle.subscriptions.proofs.Cells.{fine-rules, length-patterns_of}
-use Rattle.subscriptions.proofs.Lists.{Scanned, any_held, scan-start, scan-found, scan-next, scan-end}
+use Rattle.subscriptions.proofs.Lists.{any_held, scan-start, scan-found, scan-next, scan-end}
 use Rattle.subscriptions.proofs.is_held.Goals as goal
 use Rattle.subscriptions.proofs.is_held.Goals.{After-equal}
 
@@ -53,9 +51,3 @@ returns c =
     sym (sym (any_held A.pattern.now (patterns_of s))
     ∙ scan-end (same A.pattern.now) s c.count-n.result c.loop-i.i c.loop-i.invariant
     (omega arith))
-
-pub overflow_add-i : goal.overflow_add-i
-overflow_add-i c = omega arith
-
-pub loop-i-smaller : goal.loop-i-smaller
-loop-i-smaller c = omega arith

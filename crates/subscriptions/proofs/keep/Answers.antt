@@ -5,16 +5,11 @@ use Rattle.octets.specs.Octets.{Bytes}
 use Rattle.octets.specs.Order.{same}
 use Rattle.subscriptions.specs.Promises.{dropped, kept}
 use Rattle.subscriptions.proofs.Removing.{sets-part}
-use borrow.Author.Rules.{rules}
 use Rattle.subscriptions.proofs.keep.Goals as goal
 
 pub returns-then-equal : goal.returns-then-equal
 returns-then-equal c =
-    let s = c.args.s.now in
     let p = c.args.pattern.now in
-    let from = c.args.from in
-    let to = c.args.to in
-    let w = c.requires in
     let e = sym (c.equal.ensures ∙ ap (λ (q : Bytes). same p q) c.cell_at-p.ensures)
     ∙ c.if-equal.true in
     dropped e refl refl
@@ -33,7 +28,6 @@ returns-then-from-to c =
 
 pub returns : goal.returns
 returns c =
-    let s = c.args.s.now in
     let p = c.args.pattern.now in
     let from = c.args.from in
     let to = c.args.to in

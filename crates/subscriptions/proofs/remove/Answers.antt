@@ -1,11 +1,10 @@
 use mathlib.Core.Path.{◌≡◌}
-use Prim.Native.Nat.{◌-◌}
 use native.Mathlib.Omega.{arith}
 use lib.ListN.{length}
 use Rattle.subscriptions.specs.Region.{count_of, patterns_of}
 use Rattle.model.specs.Patterns.{remove_pattern}
 use Rattle.subscriptions.proofs.Cells.{fine-rules}
-use Rattle.subscriptions.proofs.Removing.{Sifted, becomes-headed, sift-start, sift-places, sift-next, sift-end}
+use Rattle.subscriptions.proofs.Removing.{becomes-headed, sift-start, sift-places, sift-next, sift-end}
 use Rattle.subscriptions.proofs.remove.Goals as goal
 
 pub u32_at-n-requires : goal.u32_at-n-requires
@@ -60,9 +59,3 @@ returns c =
     rw c.put_u32.ensures
     (becomes-headed s to w.size (omega (arith, w.order, w.step, w.few)) (remove_pattern p (patterns_of s₀)) s₀ l
     (sift-end (patterns_of s₀) p n s from to w (omega arith)))
-
-pub overflow_add-from : goal.overflow_add-from
-overflow_add-from c = omega arith
-
-pub loop-from-smaller : goal.loop-from-smaller
-loop-from-smaller c = omega arith

@@ -1,11 +1,6 @@
-use mathlib.Core.Path.{◌≡◌}
 use Prim.Native.Nat.{◌-◌}
-use native.Mathlib.Omega.{arith}
-use lib.ListN.{length}
-use Rattle.subscriptions.specs.Region.{count_of, patterns_of}
-use Rattle.model.specs.Patterns.{remove_pattern}
-use Rattle.subscriptions.proofs.Cells.{fine-rules}
-use Rattle.subscriptions.proofs.Removing.{Sifted, becomes-headed, sift-start, sift-places, sift-next, sift-end}
+use Rattle.subscriptions.specs.Region.{patterns_of}
+use Rattle.subscriptions.proofs.Removing.{Sifted}
 use Rattle.subscriptions.proofs.remove.Given as goal
 
 abbrev pub invariant-loop-from : goal.invariant-loop-from

@@ -2,7 +2,6 @@
 use Rattle.pattern.specs.Matching.{simple_m}
 use Rattle.pattern.proofs.Keys.{rest-hit}
 use native.Mathlib.Omega.{arith}
-use borrow.Author.Rules.{rules}
 use Rattle.pattern.proofs.element.take.Goals as goal
 
 pub returns-in-Upto : goal.returns-in-Upto

@@ -1,7 +1,6 @@
 -- `pattern::element::take_any` meets its contract: a byte stands at k, or k is the key's end.
 use Rattle.pattern.proofs.Keys.{any-hit, any-end}
 use native.Mathlib.Omega.{arith}
-use borrow.Author.Rules.{rules}
 use Rattle.pattern.proofs.element.take_any.Goals as goal
 
 pub returns-then-k-key : goal.returns-then-k-key

@@ -1,7 +1,6 @@
 -- `pattern::element::take_byte` meets its contract: the byte at k is c, or is another, or k is the key's end.
 use Rattle.pattern.proofs.Keys.{byte-hit, byte-miss, byte-end}
 use native.Mathlib.Omega.{arith}
-use borrow.Author.Rules.{rules}
 use Rattle.pattern.proofs.element.take_byte.Goals as goal
 
 pub returns-then-key-k : goal.returns-then-key-k

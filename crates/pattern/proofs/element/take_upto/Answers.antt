@@ -1,10 +1,6 @@
 -- `pattern::element::take_upto` meets its contract. The loop's invariant: no c stands from k to i, and each byte passed
 -- is one step.
-use Rattle.pattern.specs.Matching.{more, upto}
 use Rattle.pattern.proofs.Keys.{upto-start, upto-on, upto-hit, upto-end}
-use lib.ListN.{length, drop}
-use mathlib.Core.Path.{◌≡◌}
-use Prim.Native.Nat.{◌≤◌, ◌-◌}
 use native.Mathlib.Omega.{arith}
 use Rattle.pattern.proofs.element.take_upto.Goals as goal
 
@@ -28,27 +24,3 @@ returns c =
 
 pub loop-i-init : goal.loop-i-init
 loop-i-init c = (omega arith, omega arith, upto-start _ _ _)
-
-pub bounds-key-i : goal.bounds-key-i
-bounds-key-i c = omega arith
-
-pub overflow_add-result : goal.overflow_add-result
-overflow_add-result c = omega arith
-
-pub overflow_add-result-then-key-i : goal.overflow_add-result-then-key-i
-overflow_add-result-then-key-i c = omega arith
-
-pub overflow_sub-result : goal.overflow_sub-result
-overflow_sub-result c = omega arith
-
-pub overflow_add-i : goal.overflow_add-i
-overflow_add-i c = omega arith
-
-pub loop-i-smaller : goal.loop-i-smaller
-loop-i-smaller c = omega arith
-
-pub overflow_sub-result-2 : goal.overflow_sub-result-2
-overflow_sub-result-2 c = omega arith
-
-pub overflow_add-result-2 : goal.overflow_add-result-2
-overflow_add-result-2 c = omega arith

@@ -1,9 +1,7 @@
 use Rattle.pattern.specs.Matching.{more, upto}
-use Rattle.pattern.proofs.Keys.{upto-start, upto-on, upto-hit, upto-end}
 use lib.ListN.{length, drop}
 use mathlib.Core.Path.{◌≡◌}
 use Prim.Native.Nat.{◌≤◌, ◌-◌}
-use native.Mathlib.Omega.{arith}
 use Rattle.pattern.proofs.element.take_upto.Given as goal
 
 abbrev pub invariant-loop-i : goal.invariant-loop-i

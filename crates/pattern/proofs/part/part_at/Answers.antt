@@ -3,7 +3,6 @@
 use Rattle.pattern.specs.Parts.{parts}
 use Rattle.pattern.proofs.Parts.{part-token, part-star}
 use mathlib.Core.Path.{refl}
-use borrow.Author.Rules.{rules}
 use Rattle.pattern.proofs.part.part_at.Goals as goal
 
 pub returns-in-Byte : goal.returns-in-Byte

@@ -1,6 +1,5 @@
 -- `pattern::part::star_at` meets its contract: a token follows the `*`, or none does.
 use Rattle.pattern.proofs.Parts.{star-before, star-end}
-use borrow.Author.Rules.{rules}
 use Rattle.pattern.proofs.part.star_at.Goals as goal
 
 pub returns-then-at-pattern : goal.returns-then-at-pattern

@@ -1,5 +1,4 @@
 -- `pattern::part::star_part` meets its contract: each arm's equation says which clause of `star_of` holds.
-use borrow.Author.Rules.{rules}
 use Rattle.pattern.proofs.part.star_part.Goals as goal
 
 pub returns-in-Byte : goal.returns-in-Byte

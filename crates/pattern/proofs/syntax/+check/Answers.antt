@@ -1,5 +1,5 @@
 -- `pattern::syntax::check` meets its contract: at the pattern's end every group has closed, or one is left open.
-use Rattle.std.proofs.Common.{◌∙◌, arith}
+use Rattle.std.proofs.Common.{◌∙◌}
 use Rattle.pattern.proofs.Checking.{past_end, open-end}
 use Rattle.pattern.proofs.syntax.+check.Goals as goal
 

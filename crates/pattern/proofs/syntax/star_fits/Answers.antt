@@ -1,7 +1,6 @@
 -- `pattern::syntax::star_fits` meets its contract: the first token decides, and no token is fine.
 use Rattle.pattern.specs.Syntax.{star_fits}
 use Rattle.pattern.proofs.Lexing.{tokens-end}
-use borrow.Author.Rules.{rules}
 use Rattle.pattern.proofs.syntax.star_fits.Goals as goal
 
 pub returns-then-at-pattern : goal.returns-then-at-pattern

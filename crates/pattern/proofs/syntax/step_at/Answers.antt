@@ -1,6 +1,5 @@
 -- `pattern::syntax::step_at` meets its contract, by the clause of the definition for the token at `at`.
 use Rattle.pattern.proofs.Checking.{step-token}
-use borrow.Author.Rules.{rules}
 use Rattle.pattern.proofs.syntax.step_at.Goals as goal
 
 pub returns : goal.returns

@@ -1,6 +1,5 @@
 -- `pattern::syntax::step_of` meets its contract: each arm's equation says which clause of `step_of` holds, and each test
 -- which of its cases.
-use borrow.Author.Rules.{rules}
 use borrow.Author.Tests.{lt-ltb, le-ltb}
 use Rattle.pattern.proofs.syntax.step_of.Goals as goal
 

@@ -1,19 +1,12 @@
 -- `pattern::token::single` meets its contract: each arm's number says which case of the definition holds.
-use borrow.Author.Tests.{ne_eqb}
+use Rattle.std.proofs.Common.{arith}
+use Rattle.std.proofs.lemmas.Bool.Decides.{nat_tests}
 use Rattle.pattern.specs.Tokens.{single}
 use Rattle.pattern.proofs.token.single.Goals as goal
 
 pub returns-in_default : goal.returns-in_default
 unfolding single
-returns-in_default c =
-    simp (
-      ne_eqb _ _ c.in_default.in_default-own.rest.1,
-      ne_eqb _ _ c.in_default.in_default-own.rest.0.1,
-      ne_eqb _ _ c.in_default.in_default-own.rest.0.0.1,
-      ne_eqb _ _ c.in_default.in_default-own.rest.0.0.0.1,
-      ne_eqb _ _ c.in_default.in_default-own.rest.0.0.0.0.1,
-      ne_eqb _ _ c.in_default.in_default-own.rest.0.0.0.0.0.1,
-    )
+returns-in_default c = grind (arith, nat_tests)
 
 pub returns-in-40 : goal.returns-in-40
 returns-in-40 c = unfold single in rw c.in-40.is

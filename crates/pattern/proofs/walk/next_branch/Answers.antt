@@ -1,11 +1,8 @@
 -- `pattern::walk::next_branch` meets its contract. The loop's invariant: `depth` groups are open at i, inside the
 -- branch that `at` is in.
-use Rattle.pattern.specs.Places.{tree_at}
 use Rattle.pattern.proofs.Parts.{tree-end}
-use Rattle.pattern.proofs.Levels.{Within, within-start, within-one, within-open, within-bar, within-close}
+use Rattle.pattern.proofs.Levels.{within-start, within-one, within-open, within-bar, within-close}
 use Rattle.pattern.proofs.Levels.{next-bar, next-close, over-end}
-use lib.ListN.{length}
-use Prim.Native.Nat.{◌-◌}
 use native.Mathlib.Omega.{arith}
 use borrow.Author.Rules.{rules}
 use Rattle.pattern.proofs.walk.next_branch.Goals as goal
@@ -68,6 +65,3 @@ returns c = over-end _ _ _ _ _ c.loop-i.invariant (tree-end _ _ c.loop-i-test.fa
 
 pub loop-i-init : goal.loop-i-init
 loop-i-init c = within-start _ _ _ (search rules)
-
-pub overflow_sub-depth : goal.overflow_sub-depth
-overflow_sub-depth c = omega arith

@@ -1,11 +1,7 @@
 use Rattle.pattern.specs.Places.{tree_at}
-use Rattle.pattern.proofs.Parts.{tree-end}
-use Rattle.pattern.proofs.Levels.{Within, within-start, within-one, within-open, within-bar, within-close}
-use Rattle.pattern.proofs.Levels.{next-bar, next-close, over-end}
+use Rattle.pattern.proofs.Levels.{Within}
 use lib.ListN.{length}
 use Prim.Native.Nat.{◌-◌}
-use native.Mathlib.Omega.{arith}
-use borrow.Author.Rules.{rules}
 use Rattle.pattern.proofs.walk.next_branch.Given as goal
 
 abbrev pub invariant-loop-i : goal.invariant-loop-i

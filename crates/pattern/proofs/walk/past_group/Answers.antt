@@ -1,12 +1,7 @@
 -- `pattern::walk::past_group` meets its contract. The loop's invariant: i is in the group that `at` is in.
-use Rattle.pattern.specs.Tree.{above}
-use Rattle.pattern.specs.Places.{tree_at}
 use Rattle.pattern.proofs.Levels.{above-next}
-use lib.ListN.{length}
-use mathlib.Core.Path.{◌≡◌, refl, ◌∙◌}
-use Prim.Native.Nat.{◌≤◌, ◌-◌}
+use mathlib.Core.Path.{refl, ◌∙◌}
 use native.Mathlib.Omega.{arith}
-use borrow.Author.Rules.{rules}
 use Rattle.pattern.proofs.walk.past_group.Goals as goal
 
 pub loop-next-smaller : goal.loop-next-smaller

@@ -1,11 +1,8 @@
 use Rattle.pattern.specs.Tree.{above}
 use Rattle.pattern.specs.Places.{tree_at}
-use Rattle.pattern.proofs.Levels.{above-next}
 use lib.ListN.{length}
-use mathlib.Core.Path.{◌≡◌, refl, ◌∙◌}
+use mathlib.Core.Path.{◌≡◌}
 use Prim.Native.Nat.{◌≤◌, ◌-◌}
-use native.Mathlib.Omega.{arith}
-use borrow.Author.Rules.{rules}
 use Rattle.pattern.proofs.walk.past_group.Given as goal
 
 abbrev pub invariant-loop-next : goal.invariant-loop-next

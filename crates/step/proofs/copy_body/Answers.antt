@@ -1,0 +1,16 @@
+-- `step::copy_body` meets its contract.
+use mathlib.Core.Path.{◌≡◌}
+use borrow.Author.Rules.{rules}
+use Rattle.step.specs.TurnParts.{entry_body}
+use Rattle.step.proofs.Entries.{copied}
+use Rattle.step.proofs.copy_body.Goals as goal
+
+pub body_at-body-requires : goal.body_at-body-requires
+body_at-body-requires c = rw c.store_part.ensures c.requires.0.row
+
+pub returns : goal.returns
+returns c =
+    let a = c.args in
+    let e : c.body_at-body.result.now ≡ entry_body a.mem.now a.at =
+    rw c.store_part.ensures at c.body_at-body.ensures in
+    copied a.buf.now c.requires.1 e c.copy.ensures

@@ -94,4 +94,4 @@ returns c =
     (not-used x (not-true (is_used x) (sym c.is_free.ensures ∙ c.if-not-is_free.false))))
     c.done.ensures.0 c.done.ensures.1 (λ l h. absurd (never-answered l c.done.ensures.0))
     (becomes-as (sym (after_event-opened infod3 (image_of m) i o))
-    w1.«open».ensures)
+    c.«open».ensures)

@@ -14,29 +14,16 @@ use Rattle.broker.specs.FeedParts.{Says, reading_decision}
 use Rattle.broker.proofs.Decided.{obeys-as}
 use Rattle.broker.proofs.Fixed.{speaking-used, speaking-fixed, fixed-indexed, obeys-blank, obeys-fixed}
 use Rattle.broker.proofs.feeding.feed_read.Goals as goal
-use Rattle.broker.proofs.feeding.feed_read.Goals.{After-slice_known-5-1, In-Command-2}
+use Rattle.broker.proofs.feeding.feed_read.Goals.{After-slice_known-5-1}
 
 -- what was read, in the words of one of its cases
 abbrev ReadAs : After-slice_known-5-1 → wire.Reading → Type 0
 ReadAs c r =
-    let A = c.before.before.before.before.before.before.before.before.before.before.before.before.args in
-    Reads A.kind A.m.now A.buf.now r c.before.before.read.new.1.1.0
+    let A = c.args in
+    Reads A.kind A.m.now A.buf.now r c.read-r.new.buf
 
 read_as : (c : After-slice_known-5-1) (r : wire.Reading) → c.read-r.result ≡ r → ReadAs c r
 read_as c r e = subst (ReadAs c) e c.read-r.ensures
-
-read_as-2 : (c : In-Command-2) (r : wire.Reading) → c.read-r.result ≡ r → ReadAs-2 c r
-read_as-2 c r e = subst (ReadAs-2 c) e c.read-r.ensures
-
--- what was read, in the words of one of its cases
-abbrev ReadAs-2 : In-Command-2 → wire.Reading → Type 0
-ReadAs-2 c r =
-    let A = c.before.before.before.before.before.before.before.before.before.before.before.before.args in
-    Reads A.kind A.m.now A.buf.now r c.before.before.read.new.1.1.0
-
--- the command, with its payload
-commanded : (c : In-Command-2) → ReadAs-2 c (Command c.in-Command.c c.in-Command.len)
-commanded c = read_as-2 c (Command c.in-Command.c c.in-Command.len) c.in-Command.is
 
 pub fix_kind-requires : goal.fix_kind-requires
 fix_kind-requires c =
@@ -63,7 +50,7 @@ feed_command-requires c =
     let f = c.fix_kind.ensures in (
       speaking-fixed c.requires.0.speaking A.kind f,
       subst (Says c.in-Command.c) (sym c.payload-p.ensures)
-          (record { sound = read-sound A.kind (commanded (goal.at.feed_command-requires c).In-Command-2); parts = read-splits A.kind (commanded (goal.at.feed_command-requires c).In-Command-2) }),
+          (record { sound = read-sound A.kind (read_as (goal.at.feed_command-requires c).After-slice_known-5-1 (Command c.in-Command.c c.in-Command.len) c.in-Command.is); parts = read-splits A.kind (read_as (goal.at.feed_command-requires c).After-slice_known-5-1 (Command c.in-Command.c c.in-Command.len) c.in-Command.is) }),
       fixed-indexed A.slot A.kind f c.requires.2,
     )
 
@@ -75,5 +62,5 @@ returns-in-Command c =
     (obeys-as
     (sym (ap (reading_decision m₁ A.slot (length A.m.now))
     (ap (λ (p : Bytes). meant p c.in-Command.c) c.payload-p.ensures
-    ∙ sym (read-command A.kind (commanded (goal.at.returns-in-Command c).In-Command-2)))))
+    ∙ sym (read-command A.kind (read_as (goal.at.returns-in-Command c).After-slice_known-5-1 (Command c.in-Command.c c.in-Command.len) c.in-Command.is)))))
     c.feed_command.ensures)

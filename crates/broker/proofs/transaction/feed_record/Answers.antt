@@ -70,4 +70,4 @@ returns c =
     (record-done A.mem.now A.slot A.n (action (goal.at.returns c).Start) c.requires.2 (not-spoiled (goal.at.returns c).Else-is_spoiled)
     (sym (fits (goal.at.returns c).After-record_fits) ∙ c.if-not-record_fits.false))
     (obeys-recorded A.slot A.n c.requires.0.fine (action (goal.at.returns c).Start) c.done-2.ensures.0 c.done-2.ensures.1
-    recorded.«record».ensures)
+    c.«record».ensures)

@@ -1,0 +1,7 @@
+-- `ffi::infod3_open` meets its contract.
+use borrow.Author.Rules.{rules}
+use Rattle.ffi.proofs.Given.{serves-given}
+use Rattle.ffi.proofs.infod3_open.Goals as goal
+
+pub returns : goal.returns
+returns c = serves-given c.for_c.ensures.0 c.for_c.ensures.1 c.before.before.before.«open».ensures

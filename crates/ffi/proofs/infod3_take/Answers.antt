@@ -1,0 +1,7 @@
+-- `ffi::infod3_take` meets its contract.
+use borrow.Author.Rules.{rules}
+use Rattle.ffi.proofs.Given.{takes-given}
+use Rattle.ffi.proofs.infod3_take.Goals as goal
+
+pub returns : goal.returns
+returns c = takes-given c.for_c.ensures.0 c.for_c.ensures.1 c.take.ensures

@@ -1,6 +1,5 @@
 -- `step::copy_body` meets its contract.
 use mathlib.Core.Path.{◌≡◌}
-use borrow.Author.Rules.{rules}
 use Rattle.step.specs.TurnParts.{entry_body}
 use Rattle.step.proofs.Entries.{copied}
 use Rattle.step.proofs.copy_body.Goals as goal

@@ -3,12 +3,8 @@
 use mathlib.Core.Path.{◌≡◌, ◌∙◌}
 use Prim.Native.Nat.{◌<◌, ◌≤◌}
 use native.Mathlib.Omega.{arith}
-use borrow.Author.Rules.{rules}
 use borrow.Author.Rules.{part_to_end}
 use lib.ListN.{length}
-use Rattle.octets.specs.Octets.{first_nul}
-use Rattle.command.specs.declared.Written.TheVariants.{Value}
-use Rattle.command.proofs.Laws.{Behind}
 use Rattle.model.specs.Store.{lookup}
 use Rattle.recording.specs.Encoding.{key_in}
 use Rattle.store.specs.Region.{store_of}

@@ -1,13 +1,13 @@
 -- `step::notify_all` meets its contract. The loop's invariant: the slots before i are told, and slot i begins at `at`.
 -- The measure is what is left of the slots.
-use Prim.Native.Nat.{ℕ, ◌-◌, ◌<◌}
+use Prim.Native.Nat.{ℕ, ◌<◌}
 use native.Mathlib.Omega.{arith}
 use borrow.Author.Rules.{rules}
 use Rattle.slot.specs.Image.{ClientImage, notified}
 use Rattle.memory.specs.Layout.{sizes_of}
 use Rattle.memory.specs.Image.{image_of}
 use Rattle.step.proofs.Clients.{changes-equal}
-use Rattle.step.proofs.Each.{Passed, passed_start, passed-room, passed-within, passed-bounds, passed-next}
+use Rattle.step.proofs.Each.{passed_start, passed-room, passed-within, passed-bounds, passed-next}
 use Rattle.step.proofs.Each.{passed-all}
 use Rattle.step.proofs.notify_all.Goals as goal
 use Rattle.step.proofs.notify_all.Goals.{In-loop-i}

@@ -1,12 +1,7 @@
-use Prim.Native.Nat.{ℕ, ◌-◌, ◌<◌}
-use native.Mathlib.Omega.{arith}
-use borrow.Author.Rules.{rules}
-use Rattle.slot.specs.Image.{ClientImage, notified}
-use Rattle.memory.specs.Layout.{sizes_of}
+use Prim.Native.Nat.{◌-◌}
+use Rattle.slot.specs.Image.{notified}
 use Rattle.memory.specs.Image.{image_of}
-use Rattle.step.proofs.Clients.{changes-equal}
-use Rattle.step.proofs.Each.{Passed, passed_start, passed-room, passed-within, passed-bounds, passed-next}
-use Rattle.step.proofs.Each.{passed-all}
+use Rattle.step.proofs.Each.{Passed}
 use Rattle.step.proofs.notify_all.Given as goal
 
 abbrev pub invariant-loop-i : goal.invariant-loop-i

@@ -1,7 +1,6 @@
 -- `step::owe_entry_with` meets its contract.
 use mathlib.Core.Path.{sym, ap, ◌∙◌}
 use lib.ListN.{length}
-use borrow.Author.Rules.{rules}
 use Rattle.step.proofs.Entries.{body-short}
 use Rattle.step.proofs.owe_entry_with.Goals as goal
 

@@ -2,7 +2,6 @@
 use native.Mathlib.Omega.{arith}
 use Prim.Native.Nat.{ℕ, ◌+◌, ◌≤◌}
 use lib.ListN.{length}
-use borrow.Author.Rules.{rules}
 use Rattle.step.specs.TurnParts.{entry_body}
 use Rattle.step.proofs.Entries.{row-body, body-short}
 use Rattle.step.proofs.owe_long_entry.Goals as goal

@@ -2,8 +2,6 @@
 use mathlib.Core.Path.{◌≡◌, sym, ◌∙◌}
 use mathlib.Core.Bool.{true}
 use native.Mathlib.Omega.{arith}
-use borrow.Author.Rules.{rules}
-use borrow.Author.Tests.{not-true, not-false}
 use Rattle.pattern.specs.Answer.{accepted}
 use Rattle.step.specs.TurnParts.{entry_key}
 use Rattle.step.proofs.Entries.{row-body}

@@ -1,12 +1,12 @@
 -- `step::settle_all` meets its contract. The loop's invariant: the slots before i are settled, and slot i begins at
 -- `at`. The measure is what is left of the slots.
-use Prim.Native.Nat.{◌-◌, ◌<◌}
+use Prim.Native.Nat.{◌<◌}
 use native.Mathlib.Omega.{arith}
 use borrow.Author.Rules.{rules}
 use Rattle.slot.specs.Image.{settled}
 use Rattle.memory.specs.Layout.{sizes_of}
 use Rattle.refinement.specs.Turn.{settled_image}
-use Rattle.step.proofs.Each.{Passed, passed_start, passed-within, passed-bounds, passed-next, passed-all}
+use Rattle.step.proofs.Each.{passed_start, passed-within, passed-bounds, passed-next, passed-all}
 use Rattle.step.proofs.settle_all.Goals as goal
 use Rattle.step.proofs.settle_all.Goals.{In-loop-i}
 

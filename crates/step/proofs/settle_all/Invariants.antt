@@ -1,10 +1,6 @@
-use Prim.Native.Nat.{◌-◌, ◌<◌}
-use native.Mathlib.Omega.{arith}
-use borrow.Author.Rules.{rules}
+use Prim.Native.Nat.{◌-◌}
 use Rattle.slot.specs.Image.{settled}
-use Rattle.memory.specs.Layout.{sizes_of}
-use Rattle.refinement.specs.Turn.{settled_image}
-use Rattle.step.proofs.Each.{Passed, passed_start, passed-within, passed-bounds, passed-next, passed-all}
+use Rattle.step.proofs.Each.{Passed}
 use Rattle.step.proofs.settle_all.Given as goal
 
 abbrev pub invariant-loop-i : goal.invariant-loop-i

@@ -1,6 +1,5 @@
 -- `step::turn` meets its contract.
 use mathlib.Core.Path.{refl}
-use borrow.Author.Rules.{rules}
 use Rattle.protocol.specs.Terms.{hello, sub, unsub, read, ping}
 use Rattle.model.specs.Step.{store_after}
 use Rattle.recording.specs.Encoding.{action_of}

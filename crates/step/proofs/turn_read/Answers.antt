@@ -1,6 +1,5 @@
 -- `step::turn_read` meets its contract.
 use native.Mathlib.Omega.{arith}
-use borrow.Author.Rules.{rules}
 use Rattle.octets.specs.Octets.{Bytes}
 use Rattle.protocol.specs.Terms.{read}
 use Rattle.store.specs.Operation.{Found}

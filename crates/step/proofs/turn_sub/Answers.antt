@@ -1,9 +1,8 @@
 -- `step::turn_sub` meets its contract. The loop's invariant: the client is owed what the passed entries give, and the
 -- walk stands at the next one's row. The measure is what is left of the entries.
-use mathlib.Core.Path.{◌≡◌, refl, sym, subst, ◌∙◌}
-use Prim.Native.Nat.{ℕ, ◌+◌, ◌-◌}
+use mathlib.Core.Path.{refl, sym, subst, ◌∙◌}
+use Prim.Native.Nat.{ℕ, ◌+◌}
 use native.Mathlib.Omega.{arith}
-use lib.ListN.{length}
 use borrow.Author.Rules.{rules}
 use Rattle.step.proofs.Entries.{count_entries}
 use Rattle.step.proofs.Turns.{turn-addable, added-open, sub-becomes}

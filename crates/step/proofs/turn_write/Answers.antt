@@ -1,7 +1,6 @@
 -- `step::turn_write` meets its contract.
 use mathlib.Core.Path.{sym}
 use lib.Seq.{length-take-le}
-use borrow.Author.Rules.{rules}
 use Rattle.memory.specs.Image.{image_of}
 use Rattle.step.specs.TurnParts.{WritingAt}
 use Rattle.commit.proofs.Parts.{splits-within}

@@ -1,10 +1,8 @@
 -- `step::write_at` meets its contract.
 use mathlib.Core.Path.{◌≡◌, sym, subst, ◌∙◌}
 use mathlib.Core.Bool.{true, not}
-use mathlib.Core.Logic.{⊎_elim}
 use lib.ListN.{take}
 use borrow.Author.Tests.{not-true, not-false}
-use borrow.Author.Rules.{rules}
 use Rattle.octets.specs.Octets.{Bytes}
 use Rattle.model.specs.Step.{store_after}
 use Rattle.recording.specs.Encoding.{key_in, write_from}

@@ -1,7 +1,6 @@
 -- `broker::close` meets its contract.
 use mathlib.Core.Path.{◌≡◌, refl, sym, ◌∙◌}
 use mathlib.Core.Bool.{true}
-use borrow.Author.Rules.{rules}
 use borrow.Author.Tests.{not-true, not-false}
 use Rattle.model.specs.State.{slot_at}
 use Rattle.memory.specs.Image.{is_used, client_in, image_of}

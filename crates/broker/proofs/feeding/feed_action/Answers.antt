@@ -1,13 +1,12 @@
 use mathlib.Core.Path.{◌≡◌, sym, ◌∙◌}
 use mathlib.Core.List.{[], ◌∷◌}
 use mathlib.Core.Bool.{false}
-use borrow.Author.Rules.{rules}
 use Rattle.recording.specs.Encoding.{action_of}
 use Rattle.memory.specs.Image.{client_at, image_of}
 use Rattle.broker.proofs.Decided.{obeys-as, obeys-stepped}
 use Rattle.broker.proofs.Recorded.{in-used}
 use Rattle.broker.proofs.Actions.{action-refused, action-done, action-stepped}
-use Rattle.model.specs.State.{off, is_on}
+use Rattle.model.specs.State.{is_on}
 use Rattle.broker.proofs.feeding.feed_action.Goals as goal
 use Rattle.broker.proofs.feeding.feed_action.Goals.{Else-in_transaction}
 

@@ -1,6 +1,5 @@
 -- `broker::feeding::feed_line` meets its contract.
 use native.Mathlib.Omega.{arith}
-use borrow.Author.Rules.{rules}
 use Rattle.protocol.specs.declared.Kind.TheVariants.{Text}
 use Rattle.wire.proofs.ReadLaws.{room_in-le}
 use Rattle.broker.proofs.feeding.feed_line.Goals as goal

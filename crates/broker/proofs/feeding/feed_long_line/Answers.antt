@@ -1,6 +1,5 @@
 -- `broker::feeding::feed_long_line` meets its contract.
 use native.Mathlib.Omega.{arith}
-use borrow.Author.Rules.{rules}
 use Rattle.broker.proofs.feeding.feed_long_line.Goals as goal
 
 pub feed_read-requires : goal.feed_read-requires

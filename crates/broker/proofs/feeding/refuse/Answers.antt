@@ -1,7 +1,5 @@
 use mathlib.Core.Path.{◌≡◌, sym, ap₂, ◌∙◌}
 use mathlib.Core.Bool.{Bool, true}
-use borrow.Author.Rules.{rules}
-use borrow.Author.Tests.{not-true, not-false}
 use Rattle.protocol.specs.declared.Kind.{Kind}
 use Rattle.model.specs.Feed.{stays_open}
 use Rattle.memory.specs.Image.{client_at, image_of}

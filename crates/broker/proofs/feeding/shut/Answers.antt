@@ -1,4 +1,3 @@
-use borrow.Author.Rules.{rules}
 use Rattle.broker.proofs.Decided.{obeys-shut}
 use Rattle.broker.proofs.feeding.shut.Goals as goal
 

@@ -1,5 +1,4 @@
 use mathlib.Core.Path.{sym}
-use borrow.Author.Rules.{rules}
 use Rattle.broker.proofs.Refused.{hanging-shuts}
 use Rattle.broker.proofs.feeding.stays_open.Goals as goal
 

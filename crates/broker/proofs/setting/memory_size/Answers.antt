@@ -1,7 +1,5 @@
 -- `broker::setting::memory_size` meets its contract.
 use mathlib.Core.Path.{sym, ◌∙◌}
-use borrow.Author.Rules.{rules}
-use borrow.Author.Tests.{not-true, not-false}
 use Rattle.refinement.specs.Promises.{size_for}
 use Rattle.broker.proofs.setting.memory_size.Goals as goal
 

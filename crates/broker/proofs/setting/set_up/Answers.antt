@@ -2,8 +2,6 @@
 use mathlib.Core.Path.{◌≡◌, refl, sym, ◌∙◌}
 use mathlib.Core.Bool.{true}
 use native.Mathlib.Omega.{arith}
-use borrow.Author.Rules.{rules}
-use borrow.Author.Tests.{not-true, not-false}
 use Rattle.model.specs.State.{in_range}
 use Rattle.refinement.specs.Promises.{sizes_with}
 use Rattle.broker.proofs.Serving.{sets-up-refused, sets-up-short, sets-up-done}

@@ -1,7 +1,6 @@
 -- `broker::transaction::commit_refused` meets its contract.
 use mathlib.Core.Path.{◌≡◌, ◌∙◌}
 use Prim.Native.Nat.{ℕ}
-use borrow.Author.Rules.{rules}
 use lib.ListN.{replicate, length-replicate}
 use Rattle.octets.specs.Octets.{Bytes}
 use Rattle.slot.specs.Region.{subscriptions_part}

@@ -1,6 +1,5 @@
 -- `broker::transaction::copy_payload` meets its contract.
 use mathlib.Core.Path.{ap, ◌∙◌}
-use borrow.Author.Rules.{rules}
 use Rattle.octets.specs.Octets.{Bytes}
 use Rattle.protocol.specs.Terms.{payload}
 use Rattle.recording.specs.Encoding.{action_at}

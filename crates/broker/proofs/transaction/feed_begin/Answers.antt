@@ -1,6 +1,5 @@
 use mathlib.Core.Path.{sym, ◌∙◌}
 use mathlib.Core.List.{[]}
-use borrow.Author.Rules.{rules}
 use Rattle.model.specs.State.{begun}
 use Rattle.broker.proofs.Decided.{obeys-as, obeys-consumed, begin-on, begin-off}
 use Rattle.broker.proofs.Recorded.{in-used}

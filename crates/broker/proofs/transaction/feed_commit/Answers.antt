@@ -3,8 +3,6 @@
 use mathlib.Core.Path.{◌≡◌, sym, ◌∙◌}
 use mathlib.Core.Bool.{true, false}
 use mathlib.Core.List.{List}
-use borrow.Author.Rules.{rules}
-use borrow.Author.Tests.{not-true, not-false}
 use Rattle.protocol.specs.Terms.{Action}
 use Rattle.protocol.specs.declared.Refusal.TheVariants.{State}
 use Rattle.model.specs.State.{off, Transaction, is_on, is_spoiled}

@@ -1,6 +1,5 @@
 -- `broker::transaction::run_long_row` meets its contract.
 use lib.ListN.{drop}
-use borrow.Author.Rules.{rules}
 use Rattle.octets.specs.Octets.{Bytes}
 use Rattle.recording.specs.Region.{rows_of}
 use Rattle.broker.specs.CommitParts.{recording_from}

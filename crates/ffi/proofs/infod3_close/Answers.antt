@@ -1,5 +1,4 @@
 -- `ffi::infod3_close` meets its contract.
-use borrow.Author.Rules.{rules}
 use Rattle.ffi.proofs.Given.{serves-given}
 use Rattle.ffi.proofs.infod3_close.Goals as goal
 

@@ -1,6 +1,5 @@
 -- `ffi::infod3_match` meets its contract.
 use mathlib.Core.Path.{ap}
-use borrow.Author.Rules.{rules}
 use Rattle.ffi.specs.Results.{match_result}
 use Rattle.ffi.proofs.infod3_match.Goals as goal
 

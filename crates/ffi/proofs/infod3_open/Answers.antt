@@ -1,5 +1,4 @@
 -- `ffi::infod3_open` meets its contract.
-use borrow.Author.Rules.{rules}
 use Rattle.ffi.proofs.Given.{serves-given}
 use Rattle.ffi.proofs.infod3_open.Goals as goal
 

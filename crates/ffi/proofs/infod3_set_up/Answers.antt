@@ -1,5 +1,4 @@
 -- `ffi::infod3_set_up` meets its contract.
-use borrow.Author.Rules.{rules}
 use Rattle.ffi.proofs.Given.{sets-up-given}
 use Rattle.ffi.proofs.infod3_set_up.Goals as goal
 

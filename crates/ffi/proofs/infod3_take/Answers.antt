@@ -1,5 +1,4 @@
 -- `ffi::infod3_take` meets its contract.
-use borrow.Author.Rules.{rules}
 use Rattle.ffi.proofs.Given.{takes-given}
 use Rattle.ffi.proofs.infod3_take.Goals as goal
 

@@ -126,5 +126,5 @@ fn show_lines(rt: &impl Print, text: &[u8]) -> io::Result<()> {
 fn main(rt: HostRuntime) -> io::Result<()> {
     let mut text = Vec::new(rt.alloc());
     rt.reader().read_to_end(&mut text)?;
-    show_lines(&rt, &text)
+    show_lines(&rt, octets::front(&text, 65536))
 }

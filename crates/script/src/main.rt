@@ -90,5 +90,5 @@ fn main(rt: HostRuntime) -> io::Result<()> {
     broker::set_up(&mut mem, 2, 1024, 1024, 256);
     broker::open(&mut mem, 0, 1);
     broker::open(&mut mem, 1, 1);
-    run(&rt, &mut mem, &text)
+    run(&rt, &mut mem, octets::front(&text, 65536))
 }

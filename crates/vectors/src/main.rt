@@ -193,5 +193,5 @@ fn main(rt: HostRuntime) -> io::Result<()> {
     let mut text = Vec::new(rt.alloc());
     rt.reader().read_to_end(&mut text)?;
     let mut mem = [0u8; 65536];
-    run(&rt, &mut mem, &text)
+    run(&rt, &mut mem, octets::front(&text, 65536))
 }

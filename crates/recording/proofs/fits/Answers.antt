@@ -1,7 +1,6 @@
 use native.Mathlib.Omega.{arith}
 use Rattle.recording.specs.Region.{used_of, count_of}
 use Rattle.recording.proofs.Regions.{fine-rules, fits-many, fits-full, fits-room}
-use borrow.Author.Rules.{rules}
 use Rattle.recording.proofs.fits.Goals as goal
 
 pub u32_at-requires : goal.u32_at-requires

@@ -20,6 +20,7 @@ pub use rows::{id_at, payload_at, row_size};
 pub use turn::turn_finds;
 
 // Whether a state is known and goes with n actions.
+#[tactic(auto, unfolding(crate::specs::Region::state_fine))]
 fn is_state(state: usize, n: usize) -> bool
     ensures { result ≡ state_fine state n }
 {

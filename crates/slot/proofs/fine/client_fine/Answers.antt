@@ -1,12 +1,7 @@
 use mathlib.Core.Path.{sym, ◌∙◌}
-use borrow.Author.Tests.{le-leb, lt-leb, eq-eqb, ne_eqb, not-true, not-false}
+use borrow.Author.Tests.{le-leb, lt-leb, eq-eqb, ne_eqb}
 use Rattle.slot.specs.Region.{phase_of, kind_byte, client_fine}
 use Rattle.slot.proofs.Tests.{regions-regioned}
-use borrow.Author.Rules.{rules}
-use Rattle.slot.proofs.fine.client_fine.Reads as reads
-use Rattle.slot.proofs.fine.client_fine.Lts as lts
-use Rattle.slot.proofs.fine.is_bare.Reads as is-bare-reads
-use Rattle.slot.proofs.fine.regions_fine.Reads as regions-fine-reads
 use Rattle.slot.proofs.fine.client_fine.Goals as goal
 
 -- src/fine.rt:49:9

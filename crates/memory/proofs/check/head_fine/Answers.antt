@@ -3,12 +3,11 @@ use mathlib.Core.Path.{sym, ap, ◌∙◌}
 use Prim.Native.Nat.{ℕ}
 use lib.Dec.{leb}
 use lib.ListN.{length}
-use borrow.Author.Tests.{eq-eqb, ne_eqb, le-leb, lt-leb, not-true, not-false}
+use borrow.Author.Tests.{eq-eqb, ne_eqb, le-leb, lt-leb}
 use Rattle.octets.specs.Number.{number_at}
 use Rattle.model.specs.State.{in_range}
 use Rattle.memory.specs.Layout.{mark, memory_size}
 use Rattle.memory.specs.Rules.{head_fine}
-use borrow.Author.Rules.{rules}
 use Rattle.memory.proofs.check.head_fine.Goals as goal
 
 pub returns-then-mem-lt20 : goal.returns-then-mem-lt20

@@ -1,8 +1,6 @@
 -- `commit::sub_refused` meets its contract.
-use Prim.Native.Nat.{◌-◌}
 use native.Mathlib.Omega.{arith}
 use Rattle.commit.proofs.Steps.{sub-accepted, sub-by-held}
-use borrow.Author.Rules.{rules}
 use Rattle.commit.proofs.sub_refused.Goals as goal
 
 pub returns-then-count-lt16 : goal.returns-then-count-lt16

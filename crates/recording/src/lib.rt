@@ -123,6 +123,7 @@ pub fn spoil(r: &mut [u8])
 
 // Whether one action more, with a payload of n bytes, fits: it is at most the 64th, and the
 // charges stay within the room.
+#[tactic(auto, using(crate::proofs::Regions::fits_tests), unfolding(crate::specs::Region::count_of, crate::specs::Region::used_of))]
 pub fn fits(r: &[u8], n: usize) -> bool
     requires { recording_fine r.now ≡ true }
     ensures { Fits r.now n result }

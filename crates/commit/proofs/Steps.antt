@@ -66,6 +66,9 @@ sub-by-held q p f h =
     let l : length (patterns_of q) ≡ 16 = omega (arith, (fine-rules f).few, length-patterns_of q) in
     record { value = λ S s. sub-full p (patterns_of q) l }
 
+-- what decides whether a SUB is refused
+pub ruleset sub_tests = (sub-accepted, sub-by-held)
+
 -- a SUB that is not refused leaves at most sixteen patterns
 pub sub-room : (q p : Bytes) (b : Bool) → SubRefused q p b → b ≡ false → length (add_pattern p (patterns_of q)) ≤ 16
 unfolding refuses

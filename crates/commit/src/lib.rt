@@ -108,6 +108,7 @@ fn write_turn<'a>(
 }
 
 // Whether a SUB is refused: sixteen patterns are there, and it is none of them.
+#[tactic(auto, using(crate::proofs::Steps::sub_tests))]
 pub fn sub_refused(patterns: &[u8], pattern: &[u8]) -> bool
     requires { subscriptions_fine patterns.now ≡ true }
     ensures { SubRefused patterns.now pattern.now result }

@@ -1,7 +1,7 @@
 -- The laws of the region: its rules one by one, what its numbers say of the actions, and whether one more fits.
 use mathlib.Core.Path.{◌≡◌, sym, ◌∙◌}
 use mathlib.Core.List.{List, [], ◌∷◌, ◌++◌}
-use mathlib.Core.Bool.{true, false, ◌&&◌, not, true≢false}
+use mathlib.Core.Bool.{true, false, ◌&&◌, not}
 use Prim.Native.Nat.{ℕ, ◌+◌, ◌-◌, ◌≤◌, ◌<◌}
 use native.Mathlib.Nat.{zero-add, add-zero}
 use native.Mathlib.Omega.{arith}
@@ -152,3 +152,6 @@ module _ (r : Bytes) (n : ℕ) (h : recording_fine r ≡ true) where
       rw t (rw (le-leb (used_of r + (n + 4)) (length r - 12) g) at (fits-few k)))
       (λ t. let g : length r - 12 < used_of r + (n + 4) = omega (arith, leb-false n (length r - (16 + used_of r)) t) in
       rw t (rw (lt-leb (used_of r + (n + 4)) (length r - 12) g) at (fits-few k)))
+
+-- what decides whether one more fits
+pub ruleset fits_tests = (fits-many, fits-full, fits-room)

@@ -20,6 +20,7 @@ pub use rows::{id_at, payload_at, row_size};
 pub use turn::turn_finds;
 
 // Whether a state is known and goes with n actions.
+#[tactic(auto, unfolding(crate::specs::Region::state_fine))]
 fn is_state(state: usize, n: usize) -> bool
     ensures { result ≡ state_fine state n }
 {
@@ -122,6 +123,7 @@ pub fn spoil(r: &mut [u8])
 
 // Whether one action more, with a payload of n bytes, fits: it is at most the 64th, and the
 // charges stay within the room.
+#[tactic(auto, using(crate::proofs::Regions::fits_tests), unfolding(crate::specs::Region::count_of, crate::specs::Region::used_of))]
 pub fn fits(r: &[u8], n: usize) -> bool
     requires { recording_fine r.now ≡ true }
     ensures { Fits r.now n result }

@@ -10,7 +10,7 @@ use Rattle.octets.specs.Octets.{Bytes}
 use Rattle.octets.specs.Part.{part}
 use Rattle.octets.proofs.Parts.{length_part}
 use Rattle.protocol.specs.Terms.{Action}
-use Rattle.model.specs.State.{Transaction, begun, actions_in, recording_charge, recording_fits}
+use Rattle.model.specs.State.{begun, actions_in, recording_charge, recording_fits}
 use Rattle.queue.specs.Meaning.{kept, kept_rows, is_overflown}
 use Rattle.queue.specs.Region.{InStep, pending_of, tail, pending_end}
 use Rattle.queue.proofs.Regions.{length-queued_of, pending_of-kept, kept-flag}

@@ -5,7 +5,6 @@ use mathlib.Core.Bool.{Bool, true, false}
 use Prim.Native.Nat.{ℕ, ◌+◌, ◌-◌, ◌/◌, ◌≤◌}
 use native.Mathlib.Nat.{add-zero}
 use native.Mathlib.Omega.{arith}
-use lib.Dec.{leb}
 use lib.ListN.{length, take, drop, set, length-drop, length-append}
 use lib.Seq.{sets, length-sets, get_or-set_same, take_all}
 use borrow.Author.Tests.{le-leb}
@@ -26,7 +25,6 @@ use Rattle.queue.specs.Region.{InStep, queue_of, room}
 use Rattle.queue.specs.Post.{Clearing, PuttingError}
 use Rattle.recording.specs.Region.{recording_fine, transaction_of, sized}
 use Rattle.recording.specs.Promises as recording
-use Rattle.recording.proofs.Regions as R
 use Rattle.subscriptions.specs.Region.{subscriptions_fine, patterns_of}
 use Rattle.subscriptions.specs.Promises as subscriptions
 use Rattle.model.specs.State.{Transaction, free, used, new_client, with_kind, with_patterns, with_transaction, with_queue}

@@ -2,7 +2,7 @@
 use mathlib.Core.Path.{◌≡◌, refl, sym, ap, ◌∙◌}
 use mathlib.Core.List.{[], ◌∷◌}
 use mathlib.Core.Bool.{true}
-use Prim.Native.Nat.{ℕ, ◌+◌, ◌-◌, ◌≤◌}
+use Prim.Native.Nat.{ℕ, ◌+◌, ◌≤◌}
 use native.Mathlib.Nat.{add-zero}
 use native.Mathlib.Omega.{arith}
 use lib.Dec.{eqb}
@@ -14,9 +14,7 @@ use Rattle.octets.proofs.Parts.{drop-sets, drop-sets-add, part-sets-same, sets-w
 use Rattle.octets.proofs.Parts.{part-sets-after, get_d_sets_before, get_d-sets-after}
 use Rattle.queue.specs.Region.{InStep, queue_of}
 use Rattle.recording.specs.Region.{recording_fine, transaction_of}
-use Rattle.recording.specs.Promises as recording
 use Rattle.subscriptions.specs.Region.{subscriptions_fine, patterns_of}
-use Rattle.subscriptions.specs.Promises as subscriptions
 use Rattle.model.specs.State.{off, free, used}
 use Rattle.slot.specs.Image.{ClientImage}
 use Rattle.slot.specs.Region.{phase_of, kind_byte, subscriptions_part, recording_part, queue_part, kind_in, hangs_up_in}

@@ -39,6 +39,7 @@ fn regions_fine(s: &[u8], r: usize) -> bool
 }
 
 // Whether a slot that is not free keeps the rules of a client.
+#[tactic(auto, unfolding(crate::specs::Region::client_fine))]
 fn client_fine(s: &[u8], r: usize) -> bool
     requires { 4132 + r ≤ length s.now }
     ensures { result ≡ client_fine r s.now }

@@ -205,6 +205,9 @@ body_at s i = number_at-drop 4 s i 0 ∙ ap (number_at 4 s) (add-zero i)
 pub key-at : (s : Bytes) (i : ℕ) → key_length (drop i s) ≡ number_at 2 s (i + 4)
 key-at s i = number_at-drop 2 s i 4
 
+-- a row at an index, read in the list
+pub ruleset row_tests = (body_at, key-at, length-drop, get_or-drop)
+
 -- the row is within the list
 pub record Within (s : Bytes) (i : ℕ) : Type 0 where
   pub whole : i + (7 + number_at 4 s i) ≤ length s

@@ -7,6 +7,7 @@ ghost use Rattle.store.specs.Row.{row_size, key_of, body_of, row_fine, row_bytes
 use octets::{copy, min, put_u16, put_u32, u16_at, u32_at};
 
 // Whether a row stands at index i. No byte of the value is read.
+#[tactic(auto, using(crate::proofs::RowLaws::row_tests), unfolding(crate::specs::Row::row_fine))]
 pub fn is_row(s: &[u8], i: usize) -> bool
     requires { i ≤ length s.now }
     ensures { result ≡ row_fine (drop i s.now) }

@@ -3,7 +3,6 @@ use native.Mathlib.Omega.{arith}
 use Rattle.recording.specs.Turn.{earlier}
 use Rattle.store.specs.Region.{store_of}
 use Rattle.commit.proofs.Turns.{turn-none, turn-value}
-use borrow.Author.Rules.{rules}
 use Rattle.commit.proofs.body_at_turn.Goals as goal
 
 pub returns-then-body-key : goal.returns-then-body-key

@@ -1,7 +1,6 @@
 -- `commit::body_size` meets its contract.
 use mathlib.Core.Path.{sym, ap}
 use native.Mathlib.Omega.{arith}
-use borrow.Author.Rules.{rules}
 use Rattle.commit.specs.Tally.{body_size}
 use Rattle.commit.proofs.Numbers.{body_size-some}
 use Rattle.commit.proofs.body_size.Goals as goal

@@ -1,9 +1,7 @@
 -- `commit::pattern_turn` meets its contract.
-use Prim.Native.Nat.{◌-◌}
 use lib.ListN.{length}
 use Rattle.commit.proofs.Steps.{sub-room, sub-short}
 use Rattle.commit.proofs.Steps.{sub-stopped, sub-taken, unsub-taken, other-taken}
-use borrow.Author.Rules.{rules}
 use Rattle.commit.proofs.pattern_turn.Goals as goal
 
 pub returns-then-sub_refused : goal.returns-then-sub_refused

@@ -1,14 +1,13 @@
 -- `commit::refuses_any` meets its contract.
 use mathlib.Core.Path.{◌≡◌, ap}
-use Prim.Native.Nat.{ℕ, ◌+◌, ◌-◌, ◌<◌}
+use Prim.Native.Nat.{ℕ, ◌+◌, ◌<◌}
 use native.Mathlib.Omega.{arith}
 use lib.ListN.{length, drop}
 use Rattle.recording.specs.Encoding.{row_size}
 use Rattle.recording.specs.Region.{rows_of, recorded}
 use Rattle.recording.proofs.Walks.{row_here, walk-row}
 use Rattle.subscriptions.proofs.Cells.{fine-rules}
-use Rattle.commit.proofs.Steps.{tally-start, Trying, try-start, try-turn, try-stopped, try-next, try-end}
-use borrow.Author.Rules.{rules}
+use Rattle.commit.proofs.Steps.{tally-start, try-start, try-turn, try-stopped, try-next, try-end}
 use Rattle.commit.proofs.refuses_any.Goals as goal
 
 pub loop-i-init : goal.loop-i-init

@@ -1,13 +1,5 @@
-use mathlib.Core.Path.{◌≡◌, ap}
-use Prim.Native.Nat.{ℕ, ◌+◌, ◌-◌, ◌<◌}
-use native.Mathlib.Omega.{arith}
-use lib.ListN.{length, drop}
-use Rattle.recording.specs.Encoding.{row_size}
-use Rattle.recording.specs.Region.{rows_of, recorded}
-use Rattle.recording.proofs.Walks.{row_here, walk-row}
-use Rattle.subscriptions.proofs.Cells.{fine-rules}
-use Rattle.commit.proofs.Steps.{tally-start, Trying, try-start, try-turn, try-stopped, try-next, try-end}
-use borrow.Author.Rules.{rules}
+use Prim.Native.Nat.{◌-◌}
+use Rattle.commit.proofs.Steps.{Trying}
 use Rattle.commit.proofs.refuses_any.Given as goal
 
 -- The first i actions are gone through, and `at` is the offset of the next one.

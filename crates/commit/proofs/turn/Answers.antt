@@ -1,9 +1,7 @@
 -- `commit::turn` meets its contract.
-use Prim.Native.Nat.{◌-◌}
 use Rattle.store.specs.Region.{room_of}
 use Rattle.commit.specs.Promises.{store_before}
 use Rattle.commit.proofs.Steps.{row-action, row-known, row_write, turn-place, write-short}
-use borrow.Author.Rules.{rules}
 use Rattle.commit.proofs.turn.Goals as goal
 
 pub write_turn-requires : goal.write_turn-requires

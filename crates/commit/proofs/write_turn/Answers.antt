@@ -9,7 +9,6 @@ use Rattle.commit.specs.Promises.{store_before}
 use Rattle.commit.proofs.Parts.{splits-within, written_size-le}
 use Rattle.commit.proofs.Turns.{AtTurn, exchangeable, write-taken, same_taken}
 use Rattle.commit.proofs.Steps.{ascending-store_before, body-store_before}
-use borrow.Author.Rules.{rules}
 use Rattle.commit.proofs.write_turn.Goals as goal
 use Rattle.commit.proofs.write_turn.Goals.{After-body_at_turn-body}
 

@@ -4,7 +4,6 @@ use native.Mathlib.Omega.{arith}
 use Rattle.recording.specs.Region.{used_of, count_of}
 use Rattle.recording.proofs.Regions.{fine-rules}
 use Rattle.recording.proofs.Writing.{space, row_written, becomes-added}
-use borrow.Author.Rules.{rules}
 use Rattle.recording.proofs.add.Goals as goal
 
 pub u32_at-used-requires : goal.u32_at-used-requires

@@ -3,7 +3,6 @@ use native.Mathlib.Omega.{arith}
 use Rattle.recording.specs.Region.{transaction_in, state_fine}
 use Rattle.recording.proofs.Regions.{sized-bounds}
 use Rattle.recording.proofs.Writing.{becomes-empty}
-use borrow.Author.Rules.{rules}
 use Rattle.recording.proofs.clear.Goals as goal
 
 pub put_header-requires : goal.put_header-requires

@@ -2,12 +2,10 @@ use mathlib.Core.Path.{◌≡◌, sym, ◌∙◌}
 use Prim.Native.Nat.{◌+◌, ◌-◌}
 use native.Mathlib.Omega.{arith}
 use mathlib.Core.Bool.{◌&&◌}
-use borrow.Author.Tests.{not-true, not-false}
 use Rattle.octets.specs.Part.{part}
 use Rattle.recording.specs.Encoding.{rows_fine}
 use Rattle.recording.specs.Region.{state_of, used_of, count_of, rows_of, recording_fine}
 use Rattle.recording.proofs.Checks.{fine-small, fine-large, fine-over, fine-many, fine-rest}
-use borrow.Author.Rules.{rules}
 use Rattle.recording.proofs.is_fine.Goals as goal
 use Rattle.recording.proofs.is_fine.Goals.{After-is_state}
 

@@ -1,5 +1,4 @@
 use Rattle.recording.specs.Promises.{headed}
-use borrow.Author.Rules.{rules}
 use Rattle.recording.proofs.put_header.Goals as goal
 
 pub returns : goal.returns

@@ -1,5 +1,4 @@
 use mathlib.Core.Path.{sym, ◌∙◌}
-use borrow.Author.Rules.{rules}
 use Rattle.recording.proofs.Regions.{fine-rules}
 use Rattle.recording.proofs.Writing.{becomes-spoiled, becomes-same}
 use Rattle.recording.proofs.spoil.Goals as goal

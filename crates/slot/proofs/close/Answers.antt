@@ -1,7 +1,4 @@
 use Rattle.slot.proofs.Operations.{becomes-free}
-use borrow.Author.Rules.{rules}
-use Rattle.slot.proofs.close.Reads as reads
-use Rattle.slot.proofs.close.Lts as lts
 use Rattle.slot.proofs.close.Goals as goal
 
 -- src/lib.rt:68:1

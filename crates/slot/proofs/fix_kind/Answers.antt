@@ -1,7 +1,6 @@
 use mathlib.Core.Path.{ap, ◌∙◌}
 use Rattle.slot.specs.Region.{kind_byte, hangs_up_in, byte_for}
 use Rattle.slot.proofs.Operations.{says, becomes-kind}
-use borrow.Author.Rules.{rules}
 use Rattle.slot.proofs.fix_kind.Goals as goal
 
 pub returns : goal.returns

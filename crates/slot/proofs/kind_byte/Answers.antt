@@ -3,7 +3,6 @@ use Prim.Native.Nat.{ℕ, ◌+◌}
 use native.Mathlib.Omega.{arith}
 use Rattle.slot.specs.Region.{byte_for}
 use Rattle.slot.proofs.Operations.{kind_number-most}
-use borrow.Author.Rules.{rules}
 use Rattle.slot.proofs.kind_byte.Goals as goal
 
 pub overflow_add-result : goal.overflow_add-result

@@ -1,7 +1,5 @@
 use borrow.Author.Tests.{eq-eqb, ne_eqb}
 use Rattle.slot.specs.Region.{kind_numbered}
-use Rattle.slot.proofs.kind_numbered.Reads as reads
-use Rattle.slot.proofs.kind_numbered.Lts as lts
 use Rattle.slot.proofs.kind_numbered.Goals as goal
 
 -- src/lib.rt:36:9

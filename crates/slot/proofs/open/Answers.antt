@@ -1,14 +1,9 @@
-use mathlib.Core.Path.{◌≡◌, ap, ◌∙◌}
-use Prim.Native.Nat.{◌+◌, ◌-◌, ◌≤◌, ◌<◌}
+use mathlib.Core.Path.{◌≡◌, ◌∙◌}
+use Prim.Native.Nat.{◌+◌, ◌≤◌, ◌<◌}
 use native.Mathlib.Omega.{arith}
 use lib.ListN.{length, set, length-set}
 use Rattle.slot.proofs.Operations.{length-queue_part, lent-queue, back-queue, says, becomes-opened}
 use borrow.Author.Rules.{rules}
-use Rattle.slot.proofs.open.Reads as reads
-use Rattle.slot.proofs.open.Lts as lts
-use Rattle.queue.proofs.clear.Reads as clear_reads
-use Rattle.slot.proofs.kind_byte.Reads as kind-byte-reads
-use Rattle.slot.proofs.strip.Reads as strip-reads
 use Rattle.slot.proofs.open.Goals as goal
 use Rattle.slot.proofs.open.Goals.{After-strip}
 

@@ -5,11 +5,6 @@ use lib.ListN.{length}
 use lib.Seq.{sets, length-sets}
 use borrow.Rule.Slice.PartMut.{put_mid}
 use Rattle.slot.proofs.Operations.{lent-recording, sized-recording_part, back-subscriptions, back-recording, stripping}
-use borrow.Author.Rules.{rules}
-use Rattle.slot.proofs.strip.Reads as reads
-use Rattle.slot.proofs.strip.Lts as lts
-use Rattle.recording.proofs.clear.Reads as clear_reads
-use Rattle.subscriptions.proofs.clear.Reads as clear-reads'
 use Rattle.slot.proofs.strip.Goals as goal
 use Rattle.slot.proofs.strip.Goals.{After-clear}
 

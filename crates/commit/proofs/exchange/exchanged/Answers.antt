@@ -1,6 +1,5 @@
 -- `commit::exchange::exchanged` meets its contract.
 use Rattle.commit.proofs.Numbers.{less-within}
-use borrow.Author.Rules.{rules}
 use Rattle.commit.proofs.exchange.exchanged.Goals as goal
 
 pub put_in-requires : goal.put_in-requires

@@ -1,7 +1,6 @@
 -- `commit::exchange::put_in` meets its contract.
 use native.Mathlib.Omega.{arith}
 use Rattle.commit.proofs.Numbers.{more-none, more-charge, more-entry}
-use borrow.Author.Rules.{rules}
 use Rattle.commit.proofs.exchange.put_in.Goals as goal
 
 pub returns-then-new-eq0 : goal.returns-then-new-eq0

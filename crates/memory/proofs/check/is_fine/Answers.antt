@@ -1,5 +1,4 @@
 -- `memory::check::is_fine` meets its contract.
-use borrow.Author.Rules.{rules}
 use Rattle.store.proofs.Indexing.{zeros-indexed}
 use Rattle.memory.proofs.check.is_fine.Goals as goal
 

@@ -1,10 +1,9 @@
 -- `memory::check::slots_fine` meets its contract.
 use mathlib.Core.Path.{sym, ◌∙◌}
-use Prim.Native.Nat.{◌+◌, ◌-◌, ◌≤◌}
+use Prim.Native.Nat.{◌+◌, ◌≤◌}
 use native.Mathlib.Omega.{arith}
-use borrow.Author.Tests.{not-true, not-false}
 use Rattle.memory.proofs.Updates.{slot-within}
-use Rattle.memory.proofs.Fine.{SlotsLeft, left-all, left-next, left-broken, left-none, long-row}
+use Rattle.memory.proofs.Fine.{left-all, left-next, left-broken, left-none, long-row}
 use lib.ListN.{length}
 use borrow.Author.Rules.{rules}
 use Rattle.memory.proofs.check.slots_fine.Goals as goal

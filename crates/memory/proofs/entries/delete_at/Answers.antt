@@ -1,6 +1,5 @@
 -- `memory::entries::delete_at` meets its contract.
 use mathlib.Core.Path.{subst, sym}
-use borrow.Author.Rules.{rules}
 use Rattle.octets.specs.Octets.{Bytes}
 use Rattle.model.specs.Store.{remove}
 use Rattle.store.specs.Operation.{Found, PresentAt}

@@ -1,6 +1,5 @@
 -- `memory::entries::write_at` meets its contract.
 use mathlib.Core.Path.{subst, sym}
-use borrow.Author.Rules.{rules}
 use Rattle.octets.specs.Octets.{Bytes}
 use Rattle.store.specs.Operation.{WritableAt, put_payload}
 use Rattle.memory.proofs.Stored.{store_bytes, store-changes}

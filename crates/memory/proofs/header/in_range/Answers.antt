@@ -1,8 +1,6 @@
 -- `memory::header::in_range` meets its contract.
 use mathlib.Core.Path.{sym, ◌∙◌}
-use borrow.Author.Tests.{not-true, not-false}
 use Rattle.model.specs.State.{in_range}
-use borrow.Author.Rules.{rules}
 use Rattle.memory.proofs.header.in_range.Goals as goal
 
 pub returns-then-not-within : goal.returns-then-not-within

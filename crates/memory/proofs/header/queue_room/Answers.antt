@@ -1,6 +1,5 @@
 -- `memory::header::queue_room` meets its contract.
 use Rattle.memory.specs.Layout.{sizes_of}
-use borrow.Author.Rules.{rules}
 use Rattle.memory.proofs.header.queue_room.Goals as goal
 
 pub returns : goal.returns

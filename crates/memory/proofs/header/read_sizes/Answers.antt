@@ -1,6 +1,5 @@
 -- `memory::header::read_sizes` meets its contract.
 use Rattle.memory.specs.Layout.{sizes_of}
-use borrow.Author.Rules.{rules}
 use Rattle.memory.proofs.header.read_sizes.Goals as goal
 
 pub returns : goal.returns

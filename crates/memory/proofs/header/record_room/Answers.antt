@@ -1,6 +1,5 @@
 -- `memory::header::record_room` meets its contract.
 use Rattle.memory.specs.Layout.{sizes_of}
-use borrow.Author.Rules.{rules}
 use Rattle.memory.proofs.header.record_room.Goals as goal
 
 pub returns : goal.returns

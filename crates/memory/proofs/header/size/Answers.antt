@@ -2,7 +2,6 @@
 use native.Mathlib.Omega.{arith}
 use Rattle.memory.specs.Layout.{sizes_from}
 use Rattle.memory.proofs.SizeLaws.{ranges, slots_small}
-use borrow.Author.Rules.{rules}
 use Rattle.memory.proofs.header.size.Goals as goal
 
 pub overflow_add-step : goal.overflow_add-step

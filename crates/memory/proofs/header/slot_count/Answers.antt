@@ -1,6 +1,5 @@
 -- `memory::header::slot_count` meets its contract.
 use Rattle.memory.specs.Layout.{sizes_of}
-use borrow.Author.Rules.{rules}
 use Rattle.memory.proofs.header.slot_count.Goals as goal
 
 pub returns : goal.returns

@@ -2,7 +2,6 @@
 use native.Mathlib.Omega.{arith}
 use Rattle.memory.specs.Layout.{sizes_of}
 use Rattle.memory.proofs.SizeLaws.{ranges, slots_small}
-use borrow.Author.Rules.{rules}
 use Rattle.memory.proofs.header.slot_end.Goals as goal
 
 pub overflow_add-result : goal.overflow_add-result

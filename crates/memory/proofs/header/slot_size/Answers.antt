@@ -2,7 +2,6 @@
 use native.Mathlib.Omega.{arith}
 use Rattle.memory.specs.Layout.{sizes_of}
 use Rattle.memory.proofs.SizeLaws.{ranges}
-use borrow.Author.Rules.{rules}
 use Rattle.memory.proofs.header.slot_size.Goals as goal
 
 pub overflow_add-result : goal.overflow_add-result

@@ -4,7 +4,6 @@ use mathlib.Core.Path.{ap}
 use Prim.Native.Nat.{ℕ, ◌*◌}
 use Rattle.memory.specs.Layout.{sizes_of}
 use Rattle.memory.proofs.SizeLaws.{ranges, slots_small}
-use borrow.Author.Rules.{rules}
 use Rattle.memory.proofs.header.slot_start.Goals as goal
 
 pub overflow_mul-result : goal.overflow_mul-result

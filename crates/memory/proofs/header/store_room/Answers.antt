@@ -1,6 +1,5 @@
 -- `memory::header::store_room` meets its contract.
 use Rattle.memory.specs.Layout.{sizes_of}
-use borrow.Author.Rules.{rules}
 use Rattle.memory.proofs.header.store_room.Goals as goal
 
 pub returns : goal.returns

@@ -1,5 +1,4 @@
 -- `memory::parts::store_part` meets its contract.
-use borrow.Author.Rules.{rules}
 use Rattle.memory.proofs.Stored.{store_bytes}
 use Rattle.memory.proofs.parts.store_part.Goals as goal
 

@@ -1,6 +1,5 @@
 -- `memory::patterns::add_pattern` meets its contract.
 use Rattle.memory.specs.Promises.{pattern_added}
-use borrow.Author.Rules.{rules}
 use Rattle.memory.proofs.Lent.{open-used, lent-within, lent-open}
 use Rattle.memory.proofs.Returned.{lent-addable, lent-changes}
 use Rattle.memory.proofs.patterns.add_pattern.Goals as goal

@@ -1,6 +1,5 @@
 -- `memory::patterns::remove_pattern` meets its contract.
 use Rattle.memory.specs.Promises.{pattern_removed}
-use borrow.Author.Rules.{rules}
 use Rattle.memory.proofs.Lent.{open-used, lent-within, lent-open}
 use Rattle.memory.proofs.Returned.{lent-changes}
 use Rattle.memory.proofs.patterns.remove_pattern.Goals as goal

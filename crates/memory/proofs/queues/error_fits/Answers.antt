@@ -1,5 +1,4 @@
 use mathlib.Core.Path.{◌∙◌}
-use borrow.Author.Rules.{rules}
 use Rattle.memory.proofs.Lent.{lent-within, lent-queue, lent-open-client, lent-open-resting}
 use Rattle.memory.proofs.queues.error_fits.Goals as goal
 

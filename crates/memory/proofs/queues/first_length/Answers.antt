@@ -2,7 +2,6 @@
 use mathlib.Core.Path.{ap, ◌∙◌}
 use Rattle.queue.specs.Rows.{first_length}
 use Rattle.slot.specs.Image.{ClientImage}
-use borrow.Author.Rules.{rules}
 use Rattle.memory.proofs.Lent.{lent-within, lent-resting, lent-client}
 use Rattle.memory.proofs.queues.first_length.Goals as goal
 

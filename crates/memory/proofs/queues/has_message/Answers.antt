@@ -3,7 +3,6 @@ use mathlib.Core.Path.{ap, ◌∙◌}
 use mathlib.Core.Bool.{not}
 use Rattle.queue.specs.Rows.{is_empty}
 use Rattle.slot.specs.Image.{ClientImage}
-use borrow.Author.Rules.{rules}
 use Rattle.memory.proofs.Lent.{lent-within, lent-resting, lent-client}
 use Rattle.memory.proofs.queues.has_message.Goals as goal
 

@@ -1,6 +1,5 @@
 -- `memory::queues::owe` meets its contract.
 use Rattle.message.specs.Writing.{said}
-use borrow.Author.Rules.{rules}
 use Rattle.memory.proofs.Lent.{open-used, lent-within, lent-open}
 use Rattle.memory.proofs.Returned.{lent_owed}
 use Rattle.memory.proofs.queues.owe.Goals as goal

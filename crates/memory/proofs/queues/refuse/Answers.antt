@@ -1,6 +1,5 @@
 -- `memory::queues::refuse` meets its contract.
 use Rattle.slot.specs.Image.{refused}
-use borrow.Author.Rules.{rules}
 use Rattle.memory.proofs.Lent.{open-used, lent-within, lent-open}
 use Rattle.memory.proofs.Returned.{lent-changes}
 use Rattle.memory.proofs.queues.refuse.Goals as goal

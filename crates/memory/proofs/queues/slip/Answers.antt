@@ -1,5 +1,4 @@
 use Rattle.slot.specs.Image.{slipped}
-use borrow.Author.Rules.{rules}
 use Rattle.memory.proofs.Lent.{open-used, lent-within, lent-queue, lent-open-client, lent-open-resting}
 use Rattle.memory.proofs.Returned.{lent-changes}
 use Rattle.memory.proofs.queues.slip.Goals as goal

@@ -1,5 +1,4 @@
 -- `memory::queues::take` meets its contract.
-use borrow.Author.Rules.{rules}
 use Rattle.memory.proofs.Lent.{lent-within, lent-resting, lent-client}
 use Rattle.memory.proofs.Returned.{lent-taking}
 use Rattle.memory.proofs.queues.take.Goals as goal

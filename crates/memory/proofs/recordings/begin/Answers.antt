@@ -1,7 +1,6 @@
 -- `memory::recordings::begin` meets its contract.
 use mathlib.Core.List.{[]}
 use Rattle.model.specs.State.{begun, with_transaction}
-use borrow.Author.Rules.{rules}
 use Rattle.memory.proofs.Lent.{open-used, lent-within, lent-open}
 use Rattle.memory.proofs.Returned.{lent-changes}
 use Rattle.memory.proofs.recordings.begin.Goals as goal

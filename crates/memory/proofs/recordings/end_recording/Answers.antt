@@ -1,6 +1,5 @@
 -- `memory::recordings::end_recording` meets its contract.
 use Rattle.model.specs.State.{off, with_transaction}
-use borrow.Author.Rules.{rules}
 use Rattle.memory.proofs.Lent.{open-used, lent-within, lent-open}
 use Rattle.memory.proofs.Returned.{lent-changes}
 use Rattle.memory.proofs.recordings.end_recording.Goals as goal

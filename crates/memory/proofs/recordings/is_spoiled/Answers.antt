@@ -1,6 +1,5 @@
 use mathlib.Core.Path.{ap, ◌∙◌}
 use Rattle.slot.specs.Image.{ClientImage}
-use borrow.Author.Rules.{rules}
 use Rattle.memory.proofs.Lent.{lent-within, lent-used, lent-client}
 use Rattle.model.specs.State.{is_spoiled}
 use Rattle.memory.proofs.recordings.is_spoiled.Goals as goal

@@ -1,7 +1,6 @@
 -- `memory::recordings::record` meets its contract.
 use Rattle.recording.specs.Encoding.{action_of}
 use Rattle.slot.specs.Image.{recorded}
-use borrow.Author.Rules.{rules}
 use Rattle.memory.proofs.Lent.{open-used, lent-within}
 use Rattle.memory.proofs.Returned.{lent-recordable, lent-changes}
 use Rattle.memory.proofs.recordings.record.Goals as goal

@@ -1,5 +1,4 @@
 -- `memory::recordings::record_fits` meets its contract.
-use borrow.Author.Rules.{rules}
 use Rattle.memory.proofs.Lent.{lent-within, lent-used}
 use Rattle.memory.proofs.Returned.{lent_fits}
 use Rattle.memory.proofs.recordings.record_fits.Goals as goal

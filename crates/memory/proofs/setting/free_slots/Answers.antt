@@ -1,9 +1,9 @@
 -- `memory::setting::free_slots` meets its contract.
 use native.Mathlib.Omega.{arith}
-use Prim.Native.Nat.{ℕ, ◌-◌, ◌≤◌}
+use Prim.Native.Nat.{ℕ}
 use mathlib.Core.Path.{◌≡◌, subst}
 use native.Mathlib.Nat.{add-mul}
-use Rattle.memory.specs.Layout.{sizes_from, stride, slot_start}
+use Rattle.memory.specs.Layout.{sizes_from, stride}
 use Rattle.memory.specs.Promises.{Freeing}
 use Rattle.memory.proofs.SizeLaws.{ranges, slots_small}
 use Rattle.memory.proofs.Updates.{rows-within}

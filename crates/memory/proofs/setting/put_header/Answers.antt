@@ -1,7 +1,6 @@
 -- `memory::setting::put_header` meets its contract.
 use Rattle.memory.specs.Layout.{sizes_from}
 use Rattle.memory.proofs.Fresh.{heading}
-use borrow.Author.Rules.{rules}
 use Rattle.memory.proofs.setting.put_header.Goals as goal
 
 pub returns : goal.returns

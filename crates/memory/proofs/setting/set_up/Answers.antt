@@ -12,7 +12,6 @@ use Rattle.store.specs.Operation as store
 use Rattle.memory.specs.Layout.{sizes_from}
 use Rattle.memory.specs.Promises.{Freeing}
 use Rattle.memory.proofs.Fresh.{set-up}
-use borrow.Author.Rules.{rules}
 use Rattle.memory.proofs.setting.set_up.Goals as goal
 
 pub returns : goal.returns

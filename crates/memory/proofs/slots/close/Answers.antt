@@ -1,7 +1,6 @@
 -- `memory::slots::close` meets its contract.
 use mathlib.Core.Path.{refl}
 use Rattle.model.specs.State.{free}
-use borrow.Author.Rules.{rules}
 use Rattle.memory.proofs.Lent.{lent-within}
 use Rattle.memory.proofs.Returned.{lent-becomes}
 use Rattle.memory.proofs.slots.close.Goals as goal

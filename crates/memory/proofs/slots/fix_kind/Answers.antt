@@ -1,6 +1,5 @@
 -- `memory::slots::fix_kind` meets its contract.
 use Rattle.model.specs.State.{with_kind}
-use borrow.Author.Rules.{rules}
 use Rattle.memory.proofs.Lent.{lent-within, lent-used}
 use Rattle.memory.proofs.Returned.{lent-changes}
 use Rattle.memory.proofs.slots.fix_kind.Goals as goal

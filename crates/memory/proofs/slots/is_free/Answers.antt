@@ -1,6 +1,5 @@
 -- `memory::slots::is_free` meets its contract.
 use mathlib.Core.Path.{◌∙◌}
-use borrow.Author.Rules.{rules}
 use Rattle.memory.proofs.Lent.{lent-within, lent-free}
 use Rattle.memory.proofs.slots.is_free.Goals as goal
 

@@ -1,6 +1,5 @@
 -- `memory::slots::is_shut` meets its contract.
 use mathlib.Core.Path.{◌∙◌}
-use borrow.Author.Rules.{rules}
 use Rattle.memory.proofs.Lent.{lent-within, lent-shut}
 use Rattle.memory.proofs.slots.is_shut.Goals as goal
 

@@ -1,6 +1,5 @@
 -- `memory::slots::kind` meets its contract.
 use mathlib.Core.Path.{◌∙◌}
-use borrow.Author.Rules.{rules}
 use Rattle.memory.proofs.Lent.{lent-within, lent-kind}
 use Rattle.memory.proofs.slots.kind.Goals as goal
 

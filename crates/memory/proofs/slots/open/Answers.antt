@@ -1,7 +1,6 @@
 -- `memory::slots::open` meets its contract.
 use mathlib.Core.Path.{refl}
 use Rattle.model.specs.State.{opening_with, used, new_client}
-use borrow.Author.Rules.{rules}
 use Rattle.memory.proofs.Lent.{lent-within, lent-sized}
 use Rattle.memory.proofs.Returned.{lent-becomes}
 use Rattle.memory.proofs.slots.open.Goals as goal

@@ -1,7 +1,6 @@
 use Rattle.message.specs.Forms.{written}
 use Rattle.message.specs.Writing.{said}
 use Rattle.queue.proofs.Steps.{appending}
-use borrow.Author.Rules.{rules}
 use Rattle.queue.proofs.owing.append.Goals as goal
 
 pub returns : goal.returns

@@ -1,7 +1,6 @@
 use mathlib.Core.Path.{◌≡◌}
 use Rattle.queue.specs.Region.{tail}
 use Rattle.queue.proofs.Operations.{dropping}
-use borrow.Author.Rules.{rules}
 use Rattle.queue.proofs.owing.drop_pending.Goals as goal
 
 pub returns : goal.returns

@@ -5,7 +5,6 @@ use Rattle.message.specs.Writing.{said}
 use Rattle.message.specs.declared.Message.TheVariants.{Error}
 use Rattle.queue.proofs.Messages.{written-length}
 use Rattle.queue.proofs.Steps.{error_fits-offsets}
-use borrow.Author.Rules.{rules}
 use Rattle.queue.proofs.owing.error_fits.Goals as goal
 
 pub returns : goal.returns

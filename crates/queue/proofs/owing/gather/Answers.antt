@@ -2,7 +2,6 @@ use mathlib.Core.Path.{◌≡◌}
 use Prim.Native.Nat.{◌+◌, ◌-◌}
 use native.Mathlib.Omega.{arith}
 use Rattle.queue.proofs.Appending.{gathering}
-use borrow.Author.Rules.{rules}
 use Rattle.queue.proofs.owing.gather.Goals as goal
 
 pub returns : goal.returns

@@ -3,7 +3,6 @@ use Prim.Native.Nat.{◌+◌}
 use native.Mathlib.Omega.{arith}
 use borrow.Author.Tests.{le-leb, lt-leb}
 use Rattle.queue.specs.Region.{head, pending_end, room}
-use borrow.Author.Rules.{rules}
 use Rattle.queue.proofs.owing.has_room.Goals as goal
 
 pub returns-then-left-lt68 : goal.returns-then-left-lt68

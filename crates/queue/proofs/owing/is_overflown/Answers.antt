@@ -1,6 +1,5 @@
 use mathlib.Core.Path.{sym, ◌∙◌}
 use Rattle.queue.proofs.Regions.{is_overflown-flag}
-use borrow.Author.Rules.{rules}
 use Rattle.queue.proofs.owing.is_overflown.Goals as goal
 
 pub returns : goal.returns

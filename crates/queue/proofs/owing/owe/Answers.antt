@@ -11,7 +11,6 @@ use Rattle.queue.specs.Parts.{has_room}
 use Rattle.queue.proofs.Regions.{in-step-less, kept-flag}
 use Rattle.queue.proofs.Messages.{written-length}
 use Rattle.queue.proofs.Steps.{owing-overflown, owing-kept, owing-over}
-use borrow.Author.Rules.{rules}
 use Rattle.queue.proofs.owing.owe.Goals as goal
 use Rattle.queue.proofs.owing.owe.Goals.{After-written_length-n, Else-is_overflown}
 

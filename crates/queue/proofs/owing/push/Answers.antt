@@ -9,7 +9,6 @@ use Rattle.octets.proofs.Parts.{length_part, lent-part-sets}
 use Rattle.message.specs.Forms.{written}
 use Rattle.message.specs.Writing.{said}
 use Rattle.queue.proofs.Messages.{written_out, pushed_row}
-use borrow.Author.Rules.{rules}
 use Rattle.queue.proofs.owing.push.Goals as goal
 
 pub returns : goal.returns

@@ -12,7 +12,6 @@ use Rattle.queue.specs.Region.{head, pending_end, room}
 use Rattle.queue.proofs.Regions.{in-step-less}
 use Rattle.queue.proofs.Messages.{written-length}
 use Rattle.queue.proofs.Steps.{is_overflown-appended, putting-error}
-use borrow.Author.Rules.{rules}
 use Rattle.queue.proofs.owing.put_error.Goals as goal
 use Rattle.queue.proofs.owing.put_error.Goals.{After-drop_pending, After-written_length-n}
 

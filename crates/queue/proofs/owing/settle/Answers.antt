@@ -2,7 +2,6 @@ use mathlib.Core.Path.{◌≡◌}
 use Rattle.queue.specs.Region.{pending_end}
 use Rattle.queue.proofs.Regions.{kept-flag}
 use Rattle.queue.proofs.Operations.{settling}
-use borrow.Author.Rules.{rules}
 use Rattle.queue.proofs.owing.settle.Goals as goal
 
 pub returns : goal.returns

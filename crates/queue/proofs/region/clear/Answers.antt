@@ -1,5 +1,4 @@
 use Rattle.queue.proofs.Operations.{clearing}
-use borrow.Author.Rules.{rules}
 use Rattle.queue.proofs.region.clear.Goals as goal
 
 pub returns : goal.returns

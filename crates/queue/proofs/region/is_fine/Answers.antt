@@ -2,7 +2,6 @@ use mathlib.Core.Path.{◌≡◌, sym, ◌∙◌}
 use native.Mathlib.Omega.{arith}
 use Rattle.queue.specs.Region.{flag}
 use Rattle.queue.proofs.Regions.{not-fine, fine-flag}
-use borrow.Author.Rules.{rules}
 use Rattle.queue.proofs.region.is_fine.Goals as goal
 
 pub returns-then-q-lt16 : goal.returns-then-q-lt16

@@ -4,7 +4,6 @@ use native.Mathlib.Omega.{arith}
 use Rattle.queue.specs.Rows.{first_length, first_message}
 use Rattle.queue.specs.Region.{head, tail, queued_of}
 use Rattle.queue.proofs.First.{first-within, first_message-queued_of}
-use borrow.Author.Rules.{rules}
 use Rattle.queue.proofs.taking.copy_first.Goals as goal
 use Rattle.queue.proofs.taking.copy_first.Goals.{Else-n-eq0}
 

@@ -4,7 +4,6 @@ use Rattle.queue.specs.Rows.{first_length}
 use Rattle.queue.specs.Region.{head, queued_of}
 use Rattle.queue.proofs.Regions.{length-queued_of}
 use Rattle.queue.proofs.First.{first_length-most, last_taken, first_taken}
-use borrow.Author.Rules.{rules}
 use Rattle.queue.proofs.taking.drop_first.Goals as goal
 
 pub overflow_add-n : goal.overflow_add-n

@@ -2,7 +2,6 @@ use mathlib.Core.Path.{◌≡◌, sym, ◌∙◌}
 use native.Mathlib.Omega.{arith}
 use Rattle.queue.specs.Region.{head, tail}
 use Rattle.queue.proofs.First.{first_length-short, first_length-queued_of}
-use borrow.Author.Rules.{rules}
 use Rattle.queue.proofs.taking.first_length.Goals as goal
 
 pub returns-then-queued-lt4 : goal.returns-then-queued-lt4

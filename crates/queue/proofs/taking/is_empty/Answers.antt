@@ -1,6 +1,5 @@
 use mathlib.Core.Path.{sym, ◌∙◌}
 use Rattle.queue.proofs.First.{is_empty-queued_of}
-use borrow.Author.Rules.{rules}
 use Rattle.queue.proofs.taking.is_empty.Goals as goal
 
 pub returns : goal.returns

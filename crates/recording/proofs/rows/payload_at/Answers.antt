@@ -1,7 +1,6 @@
 use mathlib.Core.Path.{◌≡◌}
 use Prim.Native.Nat.{◌+◌, ◌-◌}
 use native.Mathlib.Omega.{arith}
-use borrow.Author.Rules.{rules}
 use Rattle.octets.specs.Number.{number_at}
 use Rattle.recording.proofs.Walks.{Here, row_here}
 use Rattle.recording.proofs.rows.payload_at.Goals as goal

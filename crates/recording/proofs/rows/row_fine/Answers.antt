@@ -3,12 +3,10 @@ use Prim.Native.Nat.{◌+◌, ◌-◌, ◌≤◌}
 use native.Mathlib.Omega.{arith}
 use mathlib.Core.Bool.{◌&&◌}
 use lib.Dec.{leb}
-use borrow.Author.Tests.{not-true, not-false}
 use lib.ListN.{length, drop, length-drop}
 use Rattle.octets.specs.Number.{number_at}
 use Rattle.recording.specs.Encoding.{row_fine}
 use Rattle.recording.proofs.Checks.{row_fine-short, row_fine-at}
-use borrow.Author.Rules.{rules}
 use Rattle.recording.proofs.rows.row_fine.Goals as goal
 use Rattle.recording.proofs.rows.row_fine.Goals.{After-is_action}
 

@@ -1,5 +1,4 @@
 use native.Mathlib.Omega.{arith}
-use borrow.Author.Rules.{rules}
 use Rattle.recording.proofs.Walks.{Here, row_here}
 use Rattle.recording.proofs.rows.row_size.Goals as goal
 use Rattle.recording.proofs.rows.row_size.Goals.{Start}

@@ -1,13 +1,5 @@
-use mathlib.Core.Path.{◌≡◌, sym, ◌∙◌}
-use mathlib.Core.Bool.{true}
-use Prim.Native.Nat.{◌+◌, ◌-◌, ◌≤◌}
-use native.Mathlib.Omega.{arith}
-use lib.ListN.{length, drop, length-drop}
-use borrow.Author.Tests.{not-true, not-false}
-use Rattle.octets.proofs.Numbers.{number_at-drop}
-use Rattle.recording.specs.Encoding.{row_size, row_fine}
-use Rattle.recording.proofs.Packed.{Whole, row_fine-whole}
-use Rattle.recording.proofs.Checks.{Checked, check-start, check-broken, check-next, check-end}
+use Prim.Native.Nat.{◌-◌}
+use Rattle.recording.proofs.Checks.{Checked}
 use Rattle.recording.proofs.rows.rows_fine.Given as goal
 
 -- the n - i rows from `at` on decide

@@ -2,9 +2,7 @@ use mathlib.Core.Path.{sym, ◌∙◌}
 use native.Mathlib.Omega.{arith}
 use lib.ListN.{length}
 use lib.Seq.{length-take-le}
-use borrow.Author.Tests.{not-true, not-false}
 use Rattle.recording.proofs.Bodies.{key-longer, key-other, key-ends}
-use borrow.Author.Rules.{rules}
 use Rattle.recording.proofs.turn.is_write_of.Goals as goal
 
 pub returns-then-payload-n : goal.returns-then-payload-n

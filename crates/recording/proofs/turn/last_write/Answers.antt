@@ -1,12 +1,12 @@
 use mathlib.Core.Path.{◌≡◌}
-use Prim.Native.Nat.{◌+◌, ◌-◌}
+use Prim.Native.Nat.{◌+◌}
 use native.Mathlib.Omega.{arith}
 use lib.ListN.{drop}
 use Rattle.recording.specs.Encoding.{row_size}
 use Rattle.recording.specs.Region.{rows_of}
 use Rattle.recording.specs.Promises.{RowAt}
 use Rattle.recording.proofs.Walks.{Here, row_here}
-use Rattle.recording.proofs.Turns.{Looked, look-start, look-row, look-next, look-end}
+use Rattle.recording.proofs.Turns.{look-start, look-row, look-next, look-end}
 use Rattle.recording.proofs.turn.last_write.Goals as goal
 use Rattle.recording.proofs.turn.last_write.Goals.{After-u24_at-n, In-loop-at}
 

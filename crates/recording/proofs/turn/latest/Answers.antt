@@ -2,8 +2,6 @@ use mathlib.Core.Path.{◌≡◌, sym, ◌∙◌}
 use Prim.Native.Nat.{◌+◌, ◌-◌, ◌≤◌}
 use native.Mathlib.Omega.{arith}
 use lib.ListN.{length}
-use borrow.Author.Rules.{rules}
-use borrow.Author.Tests.{not-true, not-false}
 use Rattle.recording.proofs.Walks.{row_here}
 use Rattle.recording.proofs.Turns.{latest-other, latest-missed, latest-found}
 use Rattle.recording.proofs.turn.latest.Goals as goal

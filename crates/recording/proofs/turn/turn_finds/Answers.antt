@@ -2,7 +2,6 @@ use mathlib.Core.Path.{◌≡◌}
 use Prim.Native.Nat.{◌+◌, ◌-◌}
 use native.Mathlib.Omega.{arith}
 use Rattle.recording.proofs.Turns.{turn-found, turn-missing}
-use borrow.Author.Rules.{rules}
 use Rattle.recording.proofs.turn.turn_finds.Goals as goal
 
 pub returns-then-w : goal.returns-then-w

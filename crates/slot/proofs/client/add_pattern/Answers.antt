@@ -1,9 +1,5 @@
 use Rattle.slot.specs.Region.{client_of}
 use Rattle.slot.proofs.Lent.{addable-part, lent-patterns}
-use borrow.Author.Rules.{rules}
-use Rattle.slot.proofs.client.add_pattern.Reads as reads
-use Rattle.slot.proofs.client.add_pattern.Lts as lts
-use Rattle.subscriptions.proofs.add.Reads as add_reads
 use Rattle.slot.proofs.client.add_pattern.Goals as goal
 
 -- src/client.rt:26:5

@@ -1,10 +1,6 @@
 use Rattle.slot.specs.Image.{notified}
 use Rattle.slot.specs.Promises.{room_of}
 use Rattle.slot.proofs.Resting.{becomes-same, on_client-idle, on_client-open, notified-shut, rules-open}
-use borrow.Author.Rules.{rules}
-use Rattle.slot.proofs.client.notify.Reads as reads
-use Rattle.slot.proofs.client.notify.Lts as lts
-use Rattle.slot.proofs.client.notify_open.Reads as notify-open-reads
 use Rattle.slot.proofs.client.notify.Goals as goal
 
 -- src/client.rt:57:9

@@ -5,11 +5,6 @@ use Rattle.slot.specs.Promises.{room_of}
 use Rattle.slot.proofs.Slots.{slot_of-used}
 use Rattle.slot.proofs.Operations.{open-client}
 use Rattle.slot.proofs.Resting.{becomes-same, notified-info, notified-same}
-use borrow.Author.Rules.{rules}
-use Rattle.slot.proofs.client.notify_open.Reads as reads
-use Rattle.slot.proofs.client.notify_open.Lts as lts
-use Rattle.slot.proofs.queueing.owe.Reads as owe-reads
-use Rattle.subscriptions.proofs.any_accepts.Reads as any-accepts-reads
 use Rattle.slot.proofs.client.notify_open.Goals as goal
 
 -- src/client.rt:44:48

@@ -5,11 +5,6 @@ use borrow.Author.Tests.{eq-eqb, ne_eqb}
 use Rattle.subscriptions.specs.Region.{patterns_of}
 use Rattle.slot.specs.Region.{subscriptions_part, client_of, is_bare}
 use Rattle.slot.proofs.Operations.{lent-recording}
-use borrow.Author.Rules.{rules}
-use Rattle.slot.proofs.fine.is_bare.Reads as reads
-use Rattle.slot.proofs.fine.is_bare.Lts as lts
-use Rattle.recording.proofs.is_on.Reads as is-on-reads
-use Rattle.subscriptions.proofs.count.Reads as count-reads
 use Rattle.slot.proofs.fine.is_bare.Goals as goal
 
 -- src/fine.rt:24:9

@@ -1,9 +1,5 @@
 use borrow.Author.Tests.{eq-eqb, ne_eqb}
 use Rattle.slot.specs.Region.{phase_of, slot_fine}
-use borrow.Author.Rules.{rules}
-use Rattle.slot.proofs.fine.is_fine.Reads as reads
-use Rattle.slot.proofs.fine.is_fine.Lts as lts
-use Rattle.slot.proofs.fine.client_fine.Reads as client-fine-reads
 use Rattle.slot.proofs.fine.is_fine.Goals as goal
 
 -- src/fine.rt:69:9

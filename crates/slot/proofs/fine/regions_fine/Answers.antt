@@ -1,17 +1,9 @@
 use mathlib.Core.Path.{◌≡◌, sym, ap, ◌∙◌}
 use Prim.Native.Nat.{ℕ, ◌+◌, ◌-◌}
 use lib.ListN.{length, take, drop}
-use borrow.Author.Tests.{not-true, not-false}
 use Rattle.queue.specs.Region.{queue_fine}
 use Rattle.slot.specs.Region.{phase_of, queue_part, reserve_of, regions_fine}
 use Rattle.slot.proofs.Operations.{lent-queue, lent-recording}
-use borrow.Author.Rules.{rules}
-use Rattle.slot.proofs.fine.regions_fine.Reads as reads
-use Rattle.slot.proofs.fine.regions_fine.Lts as lts
-use Rattle.queue.proofs.is_fine.Reads as region-is-fine-reads
-use Rattle.recording.proofs.is_fine.Reads as is-fine-reads
-use Rattle.slot.proofs.fine.reserve.Reads as reserve-reads
-use Rattle.subscriptions.proofs.is_fine.Reads as is-fine-reads'
 use Rattle.slot.proofs.fine.regions_fine.Goals as goal
 use Rattle.slot.proofs.fine.regions_fine.Goals.{After-is_fine-2}
 

@@ -1,6 +1,4 @@
 use borrow.Author.Tests.{eq-eqb, ne_eqb}
-use Rattle.slot.proofs.fine.reserve.Reads as reads
-use Rattle.slot.proofs.fine.reserve.Lts as lts
 use Rattle.slot.proofs.fine.reserve.Goals as goal
 
 -- src/fine.rt:13:9

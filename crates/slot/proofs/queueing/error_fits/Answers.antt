@@ -1,10 +1,9 @@
-use mathlib.Core.Path.{sym, ◌∙◌}
+use mathlib.Core.Path.{◌∙◌}
 use Rattle.slot.specs.Region.{kind_byte, kind_in, queue_part, client_of}
 use Rattle.slot.specs.Promises.{room_of}
 use Rattle.slot.proofs.Operations.{lent-queue, room-queue_part, error_fits-queued}
 use Rattle.slot.proofs.Resting.{open-rest}
 use Rattle.queue.specs.Region.{queue_of}
-use borrow.Author.Rules.{rules}
 use Rattle.slot.proofs.queueing.error_fits.Goals as goal
 
 pub error_fits-requires : goal.error_fits-requires

@@ -1,10 +1,6 @@
 use Rattle.slot.specs.Region.{client_of}
 use Rattle.slot.proofs.Operations.{lent-queue}
 use Rattle.slot.proofs.Resting.{resting-queue-any}
-use borrow.Author.Rules.{rules}
-use Rattle.slot.proofs.queueing.first_length.Reads as reads
-use Rattle.slot.proofs.queueing.first_length.Lts as lts
-use Rattle.queue.proofs.first_length.Reads as first-length-reads
 use Rattle.slot.proofs.queueing.first_length.Goals as goal
 
 -- src/queueing.rt:27:5

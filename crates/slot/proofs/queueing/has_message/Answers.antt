@@ -3,10 +3,6 @@ use mathlib.Core.Bool.{not}
 use Rattle.slot.specs.Region.{client_of}
 use Rattle.slot.proofs.Operations.{lent-queue}
 use Rattle.slot.proofs.Resting.{resting-queue-any}
-use borrow.Author.Rules.{rules}
-use Rattle.slot.proofs.queueing.has_message.Reads as reads
-use Rattle.slot.proofs.queueing.has_message.Lts as lts
-use Rattle.queue.proofs.is_empty.Reads as is-empty-reads
 use Rattle.slot.proofs.queueing.has_message.Goals as goal
 
 -- src/queueing.rt:19:6

@@ -1,11 +1,6 @@
 use Rattle.message.specs.Writing.{said}
 use Rattle.slot.proofs.Operations.{lent-queue, open-queue}
 use Rattle.slot.proofs.Lent.{lent_owed}
-use borrow.Author.Rules.{rules}
-use Rattle.slot.proofs.queueing.owe.Reads as reads
-use Rattle.slot.proofs.queueing.owe.Lts as lts
-use Rattle.queue.proofs.owe.Reads as owe-reads
-use Rattle.slot.proofs.kind.Reads as kind-reads
 use Rattle.slot.proofs.queueing.owe.Goals as goal
 
 -- src/queueing.rt:45:5

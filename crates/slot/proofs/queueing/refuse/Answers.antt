@@ -1,18 +1,13 @@
 use mathlib.Core.Path.{◌≡◌, ◌∙◌}
 use native.Mathlib.Omega.{arith}
 use mathlib.Core.List.{[], ◌∷◌}
-use Prim.Native.Nat.{◌+◌, ◌-◌, ◌≤◌}
+use Prim.Native.Nat.{◌+◌, ◌≤◌}
 use lib.ListN.{length, length-set}
 use Rattle.octets.proofs.Parts.{drop-sets}
 use Rattle.slot.specs.Region.{queue_part}
 use Rattle.slot.proofs.Operations.{lent-queue, back-queue, open-queue, becomes-refused}
 use Rattle.slot.proofs.Lent.{record-room}
 use borrow.Author.Rules.{rules}
-use Rattle.slot.proofs.queueing.refuse.Reads as reads
-use Rattle.slot.proofs.queueing.refuse.Lts as lts
-use Rattle.queue.proofs.put_error.Reads as put-error-reads
-use Rattle.slot.proofs.kind.Reads as kind-reads
-use Rattle.slot.proofs.strip.Reads as strip-reads
 use Rattle.slot.proofs.queueing.refuse.Goals as goal
 use Rattle.slot.proofs.queueing.refuse.Goals.{After-strip}
 

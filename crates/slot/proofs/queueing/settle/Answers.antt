@@ -1,9 +1,5 @@
 use Rattle.slot.specs.Image.{settled}
 use Rattle.slot.proofs.Resting.{becomes-same, on_client-idle, on_client-open, settled-shut, rules-open}
-use borrow.Author.Rules.{rules}
-use Rattle.slot.proofs.queueing.settle.Reads as reads
-use Rattle.slot.proofs.queueing.settle.Lts as lts
-use Rattle.slot.proofs.queueing.settle_open.Reads as settle-open-reads
 use Rattle.slot.proofs.queueing.settle.Goals as goal
 
 -- src/queueing.rt:79:9

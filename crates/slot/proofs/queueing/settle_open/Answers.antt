@@ -4,12 +4,6 @@ use Rattle.queue.proofs.Regions.{in-step-less}
 use Rattle.slot.proofs.Operations.{lent-queue, open-queue, open-client, open-reserve}
 use Rattle.slot.proofs.Lent.{lent-queued}
 use Rattle.slot.proofs.Resting.{settled-refused, settled-queued}
-use borrow.Author.Rules.{rules}
-use Rattle.slot.proofs.queueing.settle_open.Reads as reads
-use Rattle.slot.proofs.queueing.settle_open.Lts as lts
-use Rattle.queue.proofs.is_overflown.Reads as is-overflown-reads
-use Rattle.queue.proofs.settle.Reads as settle-reads
-use Rattle.slot.proofs.queueing.refuse.Reads as refuse-reads
 use Rattle.slot.proofs.queueing.settle_open.Goals as goal
 
 -- src/queueing.rt:67:9

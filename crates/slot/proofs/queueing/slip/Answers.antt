@@ -10,7 +10,6 @@ use Rattle.queue.specs.Post.{PuttingError}
 use Rattle.slot.specs.Region.{queue_part, client_of}
 use Rattle.slot.proofs.Operations.{lent-recording, back-recording, length-recording_part, lent-queue, back-queue}
 use Rattle.slot.proofs.Operations.{open-queue, queue-behind, becomes-slipped}
-use borrow.Author.Rules.{rules}
 use Rattle.slot.proofs.queueing.slip.Goals as goal
 use Rattle.slot.proofs.queueing.slip.Goals.{After-spoil}
 

@@ -4,10 +4,6 @@ use Rattle.slot.specs.Region.{client_of, phase_of, reserve_of}
 use Rattle.slot.proofs.Operations.{lent-queue}
 use Rattle.slot.proofs.Lent.{lent-queued}
 use Rattle.slot.proofs.Resting.{resting-queue, resting-queue-any}
-use borrow.Author.Rules.{rules}
-use Rattle.slot.proofs.queueing.take.Reads as reads
-use Rattle.slot.proofs.queueing.take.Lts as lts
-use Rattle.queue.proofs.take.Reads as take-reads
 use Rattle.slot.proofs.queueing.take.Goals as goal
 
 -- src/queueing.rt:35:5

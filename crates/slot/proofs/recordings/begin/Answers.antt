@@ -1,8 +1,4 @@
 use Rattle.slot.proofs.Lent.{lent-sized, lent-record}
-use borrow.Author.Rules.{rules}
-use Rattle.slot.proofs.recordings.begin.Reads as reads
-use Rattle.slot.proofs.recordings.begin.Lts as lts
-use Rattle.recording.proofs.begin.Reads as begin-reads
 use Rattle.slot.proofs.recordings.begin.Goals as goal
 
 -- src/recordings.rt:25:5

@@ -1,8 +1,4 @@
 use Rattle.slot.proofs.Lent.{lent-sized, lent-record}
-use borrow.Author.Rules.{rules}
-use Rattle.slot.proofs.recordings.end_recording.Reads as reads
-use Rattle.slot.proofs.recordings.end_recording.Lts as lts
-use Rattle.recording.proofs.clear.Reads as clear_reads
 use Rattle.slot.proofs.recordings.end_recording.Goals as goal
 
 -- src/recordings.rt:33:5

@@ -1,6 +1,5 @@
 use Rattle.slot.specs.Region.{client_of}
 use Rattle.slot.proofs.Operations.{lent-recording}
-use borrow.Author.Rules.{rules}
 use Rattle.slot.proofs.recordings.in_transaction.Goals as goal
 
 pub is_on-requires : goal.is_on-requires

@@ -1,6 +1,5 @@
 use Rattle.slot.specs.Region.{client_of}
 use Rattle.slot.proofs.Operations.{lent-recording}
-use borrow.Author.Rules.{rules}
 use Rattle.slot.proofs.recordings.is_spoiled.Goals as goal
 
 pub is_spoiled-requires : goal.is_spoiled-requires

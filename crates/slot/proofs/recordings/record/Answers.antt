@@ -1,9 +1,5 @@
 use Rattle.slot.proofs.Operations.{lent-recording}
 use Rattle.slot.proofs.Lent.{recordable-part, lent-recorded}
-use borrow.Author.Rules.{rules}
-use Rattle.slot.proofs.recordings.record.Reads as reads
-use Rattle.slot.proofs.recordings.record.Lts as lts
-use Rattle.recording.proofs.add.Reads as add_reads
 use Rattle.slot.proofs.recordings.record.Goals as goal
 
 -- src/recordings.rt:50:5

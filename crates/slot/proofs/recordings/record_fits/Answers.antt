@@ -1,9 +1,5 @@
 use Rattle.slot.proofs.Operations.{lent-recording}
 use Rattle.slot.proofs.Lent.{fits-part}
-use borrow.Author.Rules.{rules}
-use Rattle.slot.proofs.recordings.record_fits.Reads as reads
-use Rattle.slot.proofs.recordings.record_fits.Lts as lts
-use Rattle.recording.proofs.fits.Reads as fits-reads
 use Rattle.slot.proofs.recordings.record_fits.Goals as goal
 
 -- src/recordings.rt:41:5

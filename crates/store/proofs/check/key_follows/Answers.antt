@@ -1,6 +1,5 @@
 -- `store::check::key_follows` meets its contract.
 use mathlib.Core.Path.{ap₂, ◌∙◌}
-use borrow.Author.Rules.{rules}
 use Rattle.octets.specs.Order.{before}
 use Rattle.store.proofs.Walks.{follows-first, follows_next}
 use Rattle.store.proofs.check.key_follows.Goals as goal

@@ -1,14 +1,12 @@
 -- `store::check::rows_fine` meets its contract. The loop's invariant: all rows but the `left` last ones have passed, in
 -- n walks, and the index is one of the store. The measure is `left`.
 use mathlib.Core.Path.{◌≡◌, refl, sym, ◌∙◌}
-use Prim.Native.Nat.{◌+◌, ◌-◌, ◌≤◌}
+use Prim.Native.Nat.{◌+◌, ◌-◌}
 use native.Mathlib.Omega.{arith}
-use borrow.Author.Rules.{rules}
 use borrow.Author.Tests.{not-true, not-false}
 use lib.ListN.{length, length-set}
 use Rattle.store.specs.Region.{entries}
 use Rattle.store.specs.Index.{Indexes}
-use Rattle.store.specs.Walk.{Passed}
 use Rattle.store.proofs.Indexing.{unindexed, indexes-set}
 use Rattle.store.proofs.Walks.{reached-start, passed_start, passed-append, failed-append}
 use Rattle.store.proofs.Walks.{passed-boundary, passed-end, failed-end}

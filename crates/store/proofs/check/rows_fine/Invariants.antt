@@ -1,15 +1,9 @@
-use mathlib.Core.Path.{◌≡◌, refl, sym, ◌∙◌}
+use mathlib.Core.Path.{◌≡◌}
 use Prim.Native.Nat.{◌+◌, ◌-◌, ◌≤◌}
-use native.Mathlib.Omega.{arith}
-use borrow.Author.Rules.{rules}
-use borrow.Author.Tests.{not-true, not-false}
-use lib.ListN.{length, length-set}
+use lib.ListN.{length}
 use Rattle.store.specs.Region.{entries}
 use Rattle.store.specs.Index.{Indexes}
 use Rattle.store.specs.Walk.{Passed}
-use Rattle.store.proofs.Indexing.{unindexed, indexes-set}
-use Rattle.store.proofs.Walks.{reached-start, passed_start, passed-append, failed-append}
-use Rattle.store.proofs.Walks.{passed-boundary, passed-end, failed-end}
 use Rattle.store.proofs.check.rows_fine.Given as goal
 
 abbrev pub invariant-loop-left : goal.invariant-loop-left

@@ -1,14 +1,5 @@
-use mathlib.Core.Path.{◌≡◌, sym, ◌∙◌}
-use mathlib.Core.Bool.{true, true≢false}
-use Prim.Native.Nat.{◌+◌, ◌-◌, ◌≤◌}
-use native.Mathlib.Omega.{arith}
-use borrow.Author.Rules.{rules}
-use borrow.Author.Tests.{not-true, not-false}
-use lib.ListN.{drop}
-use Rattle.store.specs.Row.{row_fine}
+use Prim.Native.Nat.{◌-◌, ◌≤◌}
 use Rattle.store.specs.Walk.{Passed}
-use Rattle.store.proofs.RowLaws.{row_within, body_at}
-use Rattle.store.proofs.Walks.{passed_start, passed-next, failed-none, failed-unordered}
 use Rattle.store.proofs.check.walk_rows.Given as goal
 
 abbrev pub invariant-loop-left : goal.invariant-loop-left

@@ -1,10 +1,9 @@
 -- `store::index::move_index` meets its contract. The loop's invariant: the first i offsets are moved, and the others
 -- are as they were. The measure is how many are left.
-use Prim.Native.Nat.{◌-◌, ◌<◌}
+use Prim.Native.Nat.{◌<◌}
 use native.Mathlib.Omega.{arith}
-use borrow.Author.Rules.{rules}
 use lib.ListN.{length}
-use Rattle.store.proofs.Moving.{moved_none, Moving, moving-start, moving-next, moving-end}
+use Rattle.store.proofs.Moving.{moved_none, moving-start, moving-next, moving-end}
 use Rattle.store.proofs.index.move_index.Goals as goal
 
 pub returns-then-old-new : goal.returns-then-old-new

@@ -1,8 +1,6 @@
-use Prim.Native.Nat.{◌-◌, ◌<◌}
-use native.Mathlib.Omega.{arith}
-use borrow.Author.Rules.{rules}
+use Prim.Native.Nat.{◌-◌}
 use lib.ListN.{length}
-use Rattle.store.proofs.Moving.{moved_none, Moving, moving-start, moving-next, moving-end}
+use Rattle.store.proofs.Moving.{Moving}
 use Rattle.store.proofs.index.move_index.Given as goal
 
 abbrev pub invariant-loop-i : goal.invariant-loop-i

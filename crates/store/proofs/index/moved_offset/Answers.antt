@@ -1,5 +1,4 @@
 -- `store::index::moved_offset` meets its contract.
-use borrow.Author.Rules.{rules}
 use borrow.Author.Tests.{le-leb, lt-leb}
 use Rattle.store.specs.Index.{moved}
 use Rattle.store.proofs.index.moved_offset.Goals as goal

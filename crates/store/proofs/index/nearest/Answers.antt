@@ -1,11 +1,8 @@
 -- `store::index::nearest` meets its contract. The loop's invariant: a search can begin at `start`, and `high` is
 -- within the index. The measure is how many offsets are left to look at.
 use mathlib.Core.Path.{sym, ◌∙◌}
-use Prim.Native.Nat.{◌+◌, ◌-◌, ◌/◌, ◌≤◌}
+use Prim.Native.Nat.{◌+◌, ◌-◌, ◌/◌}
 use native.Mathlib.Omega.{arith}
-use borrow.Author.Rules.{rules}
-use lib.ListN.{length}
-use Rattle.store.specs.Index.{Start}
 use Rattle.store.proofs.Region.{represents}
 use Rattle.store.proofs.Turns.{start-front, start-at}
 use Rattle.store.proofs.index.nearest.Goals as goal

@@ -1,11 +1,6 @@
-use mathlib.Core.Path.{sym, ◌∙◌}
-use Prim.Native.Nat.{◌+◌, ◌-◌, ◌/◌, ◌≤◌}
-use native.Mathlib.Omega.{arith}
-use borrow.Author.Rules.{rules}
+use Prim.Native.Nat.{◌-◌, ◌≤◌}
 use lib.ListN.{length}
 use Rattle.store.specs.Index.{Start}
-use Rattle.store.proofs.Region.{represents}
-use Rattle.store.proofs.Turns.{start-front, start-at}
 use Rattle.store.proofs.index.nearest.Given as goal
 
 abbrev pub invariant-loop-low : goal.invariant-loop-low

@@ -1,6 +1,5 @@
 -- `store::reading::count` meets its contract.
 use native.Mathlib.Omega.{arith}
-use borrow.Author.Rules.{rules}
 use Rattle.store.proofs.Region.{represents}
 use Rattle.store.proofs.reading.count.Goals as goal
 

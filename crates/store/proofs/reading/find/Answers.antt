@@ -2,16 +2,15 @@
 -- to `at` come before the key, and what is found in the whole is what is found in the rest. The measure is what is
 -- left of the used bytes.
 use mathlib.Core.Path.{◌≡◌}
-use Prim.Native.Nat.{◌+◌, ◌-◌, ◌<◌}
+use Prim.Native.Nat.{◌+◌, ◌<◌}
 use native.Mathlib.Omega.{arith}
-use borrow.Author.Rules.{rules}
 use lib.ListN.{drop}
 use Rattle.octets.specs.Order.{order}
 use Rattle.octets.specs.declared.comparison.Order.TheVariants.{Less, Equal, Greater}
 use Rattle.store.specs.Row.{key_of}
 use Rattle.store.specs.Region.{used_of}
 use Rattle.store.proofs.Region.{represents}
-use Rattle.store.proofs.Turns.{Searched, searched-start, searched-row, searched-within}
+use Rattle.store.proofs.Turns.{searched-start, searched-row, searched-within}
 use Rattle.store.proofs.Turns.{searched-less, searched-equal, searched-greater, searched-end}
 use Rattle.store.proofs.reading.find.Goals as goal
 use Rattle.store.proofs.reading.find.Goals.{In-loop-at}

@@ -1,15 +1,7 @@
 use mathlib.Core.Path.{◌≡◌}
-use Prim.Native.Nat.{◌+◌, ◌-◌, ◌<◌}
-use native.Mathlib.Omega.{arith}
-use borrow.Author.Rules.{rules}
-use lib.ListN.{drop}
-use Rattle.octets.specs.Order.{order}
-use Rattle.octets.specs.declared.comparison.Order.TheVariants.{Less, Equal, Greater}
-use Rattle.store.specs.Row.{key_of}
+use Prim.Native.Nat.{◌-◌}
 use Rattle.store.specs.Region.{used_of}
-use Rattle.store.proofs.Region.{represents}
-use Rattle.store.proofs.Turns.{Searched, searched-start, searched-row, searched-within}
-use Rattle.store.proofs.Turns.{searched-less, searched-equal, searched-greater, searched-end}
+use Rattle.store.proofs.Turns.{Searched}
 use Rattle.store.proofs.reading.find.Given as goal
 
 abbrev pub invariant-loop-at : goal.invariant-loop-at

@@ -1,6 +1,5 @@
 -- `store::reading::fits` meets its contract.
 use native.Mathlib.Omega.{arith}
-use borrow.Author.Rules.{rules}
 use Rattle.store.proofs.Region.{represents}
 use Rattle.store.proofs.reading.fits.Goals as goal
 

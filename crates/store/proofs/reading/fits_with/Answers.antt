@@ -1,5 +1,4 @@
 -- `store::reading::fits_with` meets its contract.
-use borrow.Author.Rules.{rules}
 use borrow.Author.Tests.{le-leb, lt-leb}
 use Rattle.store.specs.Operation.{fits_with}
 use Rattle.store.proofs.reading.fits_with.Goals as goal

@@ -1,7 +1,6 @@
 -- `store::reading::key_at` meets its contract.
 use Prim.Native.Nat.{◌+◌}
 use native.Mathlib.Omega.{arith}
-use borrow.Author.Rules.{rules}
 use Rattle.store.proofs.RowLaws.{row_within}
 use Rattle.store.proofs.reading.key_at.Goals as goal
 

@@ -1,7 +1,6 @@
 -- `store::reading::look_up` meets its contract.
 use mathlib.Core.Path.{◌∙◌}
 use native.Mathlib.Omega.{arith}
-use borrow.Author.Rules.{rules}
 use Rattle.store.specs.Operation.{body}
 use Rattle.store.proofs.Change.{found-row, found_none}
 use Rattle.store.proofs.reading.look_up.Goals as goal

@@ -1,7 +1,6 @@
 -- `store::reading::row_count` meets its contract.
 use mathlib.Core.Path.{sym}
 use native.Mathlib.Omega.{arith}
-use borrow.Author.Rules.{rules}
 use Rattle.store.proofs.Split.{row_count-some}
 use Rattle.store.proofs.reading.row_count.Goals as goal
 

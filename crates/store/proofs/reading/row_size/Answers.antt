@@ -1,7 +1,6 @@
 -- `store::reading::row_size` meets its contract.
 use Prim.Native.Nat.{◌+◌}
 use native.Mathlib.Omega.{arith}
-use borrow.Author.Rules.{rules}
 use Rattle.store.proofs.RowLaws.{row_within}
 use Rattle.store.proofs.reading.row_size.Goals as goal
 

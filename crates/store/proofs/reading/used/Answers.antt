@@ -1,6 +1,5 @@
 -- `store::reading::used` meets its contract.
 use native.Mathlib.Omega.{arith}
-use borrow.Author.Rules.{rules}
 use Rattle.store.proofs.Region.{represents}
 use Rattle.store.proofs.reading.used.Goals as goal
 

@@ -1,6 +1,5 @@
 -- `store::row::size` meets its contract.
 use native.Mathlib.Omega.{arith}
-use borrow.Author.Rules.{rules}
 use Rattle.store.proofs.RowLaws.{row_within, body_at}
 use Rattle.store.proofs.row.size.Goals as goal
 

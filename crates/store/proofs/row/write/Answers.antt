@@ -1,7 +1,6 @@
 -- `store::row::write` meets its contract: four stores, one behind the other, are the row.
 use Prim.Native.Nat.{◌+◌}
 use native.Mathlib.Omega.{arith}
-use borrow.Author.Rules.{rules}
 use lib.ListN.{length-set}
 use Rattle.store.proofs.RowLaws.{sets-row_bytes}
 use Rattle.store.proofs.row.write.Goals as goal

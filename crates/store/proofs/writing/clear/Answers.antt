@@ -2,7 +2,6 @@
 use mathlib.Core.Path.{refl}
 use mathlib.Core.List.{[]}
 use native.Mathlib.Omega.{arith}
-use borrow.Author.Rules.{rules}
 use Rattle.model.specs.Invariant.{Ascending}
 use Rattle.store.proofs.Rows.{Rows}
 use Rattle.store.proofs.Splice.{length-headed, represents-headed, becomes}

@@ -1,5 +1,4 @@
 -- `store::writing::put_head` meets its contract.
-use borrow.Author.Rules.{rules}
 use Rattle.store.proofs.writing.put_head.Goals as goal
 
 pub returns : goal.returns

@@ -43,7 +43,7 @@ pub examples-hold : map computed examples ≡ map given examples
 unfolding starts_text kind_of ends_line line_end line_length frame_length length_of
 examples-hold = refl
 
--- LF, CR, space, `@` and `~`; NUL, PING's ID, a quote, a digit, `?`, DEL, 0x80 and 0x_ff
+-- LF, CR, space, `@` and `~`; NUL, PING's ID, a quote, a digit, `?`, DEL, 0x80 and 0xFF
 pub first-bytes : map starts_text (10 ∷ 13 ∷ 32 ∷ 64 ∷ 126 ∷ 0 ∷ 7 ∷ 34 ∷ 48 ∷ 63 ∷ 127 ∷ 128 ∷ 255 ∷ [])
     ≡ true ∷ true ∷ true ∷ true ∷ true ∷ false ∷ false ∷ false ∷ false ∷ false ∷ false ∷ false ∷ false ∷ []
 unfolding starts_text

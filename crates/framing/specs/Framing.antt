@@ -5,7 +5,7 @@ use Rattle.octets.specs.Octets.{Bytes}
 use Rattle.protocol.specs.declared.Kind.{Kind}
 use Rattle.protocol.specs.declared.Kind.TheVariants.{Packets, Stream, Framed, Text}
 
--- 0x0_a, 0x0_d, 0x20 or 0x40 to 0x7_e means text, all else means framed
+-- 0x0A, 0x0D, 0x20 or 0x40 to 0x7E means text, all else means framed
 unfoldable pub starts_text : ℕ → Bool
 starts_text c = eqb c 10 || (eqb c 13 || (eqb c 32 || (leb 64 c && leb c 126)))
 

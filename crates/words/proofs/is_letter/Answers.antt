@@ -1,5 +1,4 @@
 -- `words::is_letter`: a letter stands alone, where there is one.
-use borrow.Author.Rules.{rules}
 use mathlib.Core.Path.{sym}
 use Rattle.words.proofs.Laws.{letter-length, letter-is}
 use Rattle.words.proofs.is_letter.Goals as goal

@@ -1,5 +1,4 @@
 -- `words::lower_of`: by the ends of the capitals.
-use borrow.Author.Rules.{rules}
 use native.Mathlib.Omega.{arith}
 use borrow.Author.Tests.{le-leb, lt-leb}
 use Rattle.words.specs.Words.{lower}

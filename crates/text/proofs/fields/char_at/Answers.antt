@@ -1,5 +1,4 @@
 -- `text::fields::char_at`: by the byte at i, and by what follows a quote or a backslash.
-use borrow.Author.Rules.{rules}
 use native.Mathlib.Omega.{arith}
 use mathlib.Core.Path.{sym, ◌∙◌}
 use Rattle.text.proofs.ScanLaws.{quoted-byte, close-last, close-space, close-bad, escape-byte, escape-bad}

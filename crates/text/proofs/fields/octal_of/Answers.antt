@@ -1,5 +1,4 @@
 -- `text::fields::octal_of`: digit by digit.
-use borrow.Author.Rules.{rules}
 use borrow.Author.Tests.{lt-ltb, le-ltb, le-leb, lt-leb}
 use Rattle.text.specs.Fields.{octal}
 use Rattle.text.proofs.fields.octal_of.Goals as goal

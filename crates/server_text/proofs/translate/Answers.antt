@@ -2,7 +2,6 @@ use native.Mathlib.Omega.{arith}
 use mathlib.Core.Path.{refl, sym}
 use lib.Seq.{length-take-le}
 use Rattle.server_text.proofs.LineLaws.{line-empty, line-cr, line-open}
-use borrow.Author.Rules.{rules}
 use Rattle.server_text.proofs.translate.Goals as goal
 
 pub returns-then-line-eq0 : goal.returns-then-line-eq0

@@ -1,6 +1,5 @@
 use native.Mathlib.Omega.{arith}
 use Rattle.server_text.proofs.PayloadLaws.{keyed-nul, keyed-built, keyed-bad, keyed-malformed}
-use borrow.Author.Rules.{rules}
 use Rattle.server_text.proofs.fields.keyed_fields.Goals as goal
 
 pub returns-then-nul : goal.returns-then-nul

@@ -1,5 +1,4 @@
 -- `server_text::fields::number_in`: no digit, one digit, a leading zero, or several digits.
-use borrow.Author.Rules.{rules}
 use mathlib.Core.Path.{sym, ap, ◌∙◌}
 use Rattle.text.specs.PayloadPost.{number_of}
 use Rattle.server_text.proofs.PayloadLaws.{number-none, number-one, number-led, number-several}

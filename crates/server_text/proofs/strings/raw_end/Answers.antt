@@ -3,9 +3,9 @@ use borrow.Author.Rules.{rules}
 use mathlib.Core.Path.{◌≡◌, sym, ap, ◌∙◌}
 use Prim.Native.Nat.{ℕ, ◌+◌, ◌-◌}
 use native.Mathlib.Omega.{arith}
-use lib.ListN.{length, take, drop}
+use lib.ListN.{take, drop}
 use Rattle.message.specs.Quoting.{escaped}
-use Rattle.server_text.proofs.ScanLaws.{Raw, raw-start, raw-more, raw-then}
+use Rattle.server_text.proofs.ScanLaws.{raw-start, raw-more, raw-then}
 use Rattle.server_text.proofs.strings.raw_end.Goals as goal
 
 pub overflow_sub-line : goal.overflow_sub-line

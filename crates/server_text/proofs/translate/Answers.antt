@@ -19,5 +19,4 @@ returns-then-line-n-eq13 c =
 
 pub returns : goal.returns
 returns c =
-    rw (line-open c.args.line.now _ refl
-    c.if-line-n-eq13.false) c.translate_body-2.ensures
+    rw (line-open c.args.line.now _ refl (omega arith)) c.translate_body-2.ensures

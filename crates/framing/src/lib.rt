@@ -10,6 +10,7 @@ ghost use Rattle.framing.specs.Ends.{end_count, ends};
 use protocol::Kind;
 
 // Whether a stream whose first byte is c is text.
+#[tactic(auto, unfolding(crate::specs::Framing::starts_text))]
 fn starts_text(c: u8) -> bool
     ensures { result ≡ starts_text c }
 {
@@ -45,6 +46,7 @@ fn stream_kind(input: &[u8]) -> Kind
 }
 
 // Whether c ends a line.
+#[tactic(auto, unfolding(crate::specs::Framing::ends_line))]
 pub fn ends_line(c: u8) -> bool
     ensures { result ≡ ends_line c }
 {

@@ -1,7 +1,7 @@
 -- The protocol's terms (documents 000 and 01): what a client says, what the server says, and how both stand as an ID
 -- and a payload. `Protocol` is what other crates define of it: reading, writing and matching. The simple server is
 -- defined over any of them.
-use Rattle.std.specs.Prelude.{ℕ, ◌+◌, [], ◌∷◌, ◌++◌, Bool}
+use Rattle.std.specs.Prelude.{ℕ, [], ◌∷◌, ◌++◌, Bool}
 use Rattle.std.proofs.Math.Option.{Option, some, none}
 use Rattle.octets.specs.Octets.{Bytes, ascii}
 use Rattle.protocol.specs.declared.Kind.{Kind}

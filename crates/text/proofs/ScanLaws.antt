@@ -125,6 +125,9 @@ escape-short s i h e l =
     let k : length (drop (suc i) s) < 3 = simp length-drop (omega arith) in
     rw (drop-cons s i 0 h, e) (short_escape (drop (suc i) s) k)
 
+-- what a quote in a string is, for the tactics
+pub ruleset closes = (close-last, close-space, close-bad)
+
 -- ---- a run of a quoted string's bytes
 
 unfoldable pub ahead : Bytes → Scan → Scan

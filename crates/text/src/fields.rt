@@ -59,6 +59,7 @@ pub fn word_end(line: &[u8], at: usize) -> usize
 }
 
 // The byte that three octal digits spell, at most \377.
+#[tactic(auto, unfolding(crate::specs::Fields::octal))]
 pub fn octal_of(a: u8, b: u8, c: u8) -> Octal
     ensures { result ≡ octal_of (octal a b c) }
 {
@@ -84,6 +85,7 @@ pub fn octal_of(a: u8, b: u8, c: u8) -> Octal
 }
 
 // What stands at i in a quoted field.
+#[tactic(auto, using(crate::proofs::ScanLaws::closes))]
 fn char_at(line: &[u8], i: usize) -> Char
     requires { i < length line.now }
     ensures { CharAt quoted line.now i result }

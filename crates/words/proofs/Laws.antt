@@ -74,6 +74,9 @@ letter-is (a ∷ []) c h = by (eqb (lower a) c)
     by false = refl
 letter-is (a ∷ b ∷ w) c h = absurd (omega arith)
 
+-- what a letter is, for the tactics
+pub ruleset letters = (letter-length, letter-is)
+
 -- ---- the table
 
 -- the element at i of a mapped list, whatever the defaults

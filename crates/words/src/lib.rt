@@ -91,6 +91,7 @@ fn row_at(i: usize) -> Row
 }
 
 // A capital's small letter; every other byte as it is.
+#[tactic(auto, unfolding(crate::specs::Words::lower))]
 fn lower_of(c: u8) -> u8
     ensures { result ≡ lower c }
 {
@@ -120,6 +121,7 @@ fn is_word(w: &[u8], word: &[u8]) -> bool
 }
 
 // Whether w is the letter, in any case, where there is one.
+#[tactic(auto, using(crate::proofs::Laws::letters))]
 fn is_letter(w: &[u8], letter: Letter) -> bool
     ensures { result ≡ is_letter (map lower w.now) letter }
 {

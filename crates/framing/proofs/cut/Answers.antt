@@ -1,5 +1,4 @@
 -- `framing::cut` gives the part that the message's length says.
-use borrow.Author.Rules.{rules}
 use mathlib.Core.Path.{ap, ◌∙◌}
 use native.Mathlib.Omega.{arith}
 use lib.ListN.{take}

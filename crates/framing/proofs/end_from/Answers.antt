@@ -1,10 +1,6 @@
 -- `framing::end_from`: from `at` to i no byte ends a line.
-use borrow.Author.Rules.{rules}
-use mathlib.Core.Path.{◌≡◌, sym, ◌∙◌}
-use Prim.Native.Nat.{◌≤◌, ◌+◌, ◌-◌}
+use mathlib.Core.Path.{sym, ◌∙◌}
 use native.Mathlib.Omega.{arith}
-use lib.ListN.{length, drop}
-use Rattle.framing.specs.Framing.{line_end}
 use Rattle.framing.proofs.Laws.{line_end-here, line_end-on, line_end-none}
 use Rattle.framing.proofs.end_from.Goals as goal
 

@@ -1,10 +1,7 @@
-use borrow.Author.Rules.{rules}
-use mathlib.Core.Path.{◌≡◌, sym, ◌∙◌}
+use mathlib.Core.Path.{◌≡◌}
 use Prim.Native.Nat.{◌≤◌, ◌+◌, ◌-◌}
-use native.Mathlib.Omega.{arith}
 use lib.ListN.{length, drop}
 use Rattle.framing.specs.Framing.{line_end}
-use Rattle.framing.proofs.Laws.{line_end-here, line_end-on, line_end-none}
 use Rattle.framing.proofs.end_from.Given as goal
 
 abbrev pub invariant-loop-i : goal.invariant-loop-i

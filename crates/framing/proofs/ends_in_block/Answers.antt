@@ -1,10 +1,7 @@
 -- `framing::ends_in_block`: n is how many of the first i bytes from `at` on end a line.
-use borrow.Author.Rules.{rules}
 use mathlib.Core.Path.{◌≡◌}
-use Prim.Native.Nat.{◌≤◌, ◌+◌, ◌-◌}
+use Prim.Native.Nat.{◌+◌}
 use native.Mathlib.Omega.{arith}
-use lib.ListN.{take, drop}
-use Rattle.framing.specs.Ends.{ends}
 use Rattle.framing.proofs.Laws.{block_start, block-next, end_count-le}
 use Rattle.framing.proofs.ends_in_block.Goals as goal
 

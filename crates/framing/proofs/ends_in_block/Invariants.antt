@@ -1,10 +1,7 @@
-use borrow.Author.Rules.{rules}
 use mathlib.Core.Path.{◌≡◌}
-use Prim.Native.Nat.{◌≤◌, ◌+◌, ◌-◌}
-use native.Mathlib.Omega.{arith}
+use Prim.Native.Nat.{◌≤◌, ◌-◌}
 use lib.ListN.{take, drop}
 use Rattle.framing.specs.Ends.{ends}
-use Rattle.framing.proofs.Laws.{block_start, block-next, end_count-le}
 use Rattle.framing.proofs.ends_in_block.Given as goal
 
 abbrev pub invariant-loop-i : goal.invariant-loop-i

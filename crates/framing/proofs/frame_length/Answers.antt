@@ -1,5 +1,4 @@
 -- `framing::frame_length` gives the length that the head says, where that many bytes are there.
-use borrow.Author.Rules.{rules}
 use mathlib.Core.Path.{sym}
 use native.Mathlib.Omega.{arith}
 use Rattle.framing.proofs.Laws.{frame_length-short, frame_length-whole, frame_length-part}

@@ -1,5 +1,4 @@
 -- `framing::kind_of` keeps every kind but a stream.
-use borrow.Author.Rules.{rules}
 use Rattle.framing.specs.Framing.{kind_of}
 use Rattle.framing.proofs.kind_of.Goals as goal
 

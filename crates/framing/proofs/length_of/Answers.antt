@@ -1,5 +1,4 @@
 -- `framing::length_of` goes by the kind.
-use borrow.Author.Rules.{rules}
 use Rattle.framing.specs.Framing.{length_of}
 use Rattle.framing.proofs.length_of.Goals as goal
 

@@ -1,10 +1,5 @@
 -- `framing::line_end`: before i no byte ends a line.
-use borrow.Author.Rules.{rules}
-use mathlib.Core.Path.{◌≡◌}
-use Prim.Native.Nat.{◌≤◌, ◌+◌, ◌-◌}
 use native.Mathlib.Omega.{arith}
-use lib.ListN.{length, drop}
-use Rattle.framing.specs.Framing.{line_end}
 use Rattle.framing.proofs.Laws.{line_end-skip}
 use Rattle.framing.proofs.line_end.Goals as goal
 

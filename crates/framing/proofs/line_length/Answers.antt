@@ -1,5 +1,4 @@
 -- `framing::line_length` looks for a line end in the first 262,152 bytes.
-use borrow.Author.Rules.{rules}
 use native.Mathlib.Omega.{arith}
 use lib.Seq.{length-take-le}
 use Rattle.framing.proofs.Laws.{line-found, line-long, line-short}

@@ -1,5 +1,4 @@
 -- `framing::stream_kind` gives the kind that the first byte means.
-use borrow.Author.Rules.{rules}
 use mathlib.Core.Path.{sym, ◌∙◌}
 use native.Mathlib.Omega.{arith}
 use Rattle.framing.proofs.Laws.{kind_of-empty, kind_of-text, kind_of-framed}

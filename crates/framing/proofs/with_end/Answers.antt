@@ -1,5 +1,4 @@
 -- `framing::with_end` counts one byte more.
-use borrow.Author.Rules.{rules}
 use mathlib.Core.Path.{sym, ◌∙◌}
 use native.Mathlib.Omega.{arith}
 use Rattle.framing.specs.Ends.{end_count}

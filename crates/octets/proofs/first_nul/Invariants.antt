@@ -1,11 +1,7 @@
-use borrow.Author.Rules.{rules}
-use native.Mathlib.Omega.{arith}
 use mathlib.Core.Path.{◌≡◌}
 use Prim.Native.Nat.{◌+◌, ◌-◌, ◌≤◌}
 use lib.ListN.{length, drop}
 use Rattle.octets.specs.Octets.{first_nul}
-use Rattle.octets.proofs.Laws.{first-here, first_on, first-none}
-use Rattle.octets.proofs.Nul.{first_nul-within, first_nul-drop, clear_blocks-within}
 use Rattle.octets.proofs.first_nul.Given as goal
 
 -- no byte before i is NUL

@@ -1,5 +1,4 @@
 -- `octets::tail` stops at the end.
-use borrow.Author.Rules.{rules}
 use Rattle.octets.proofs.Parts.{drop-clipped}
 use Rattle.octets.proofs.tail.Goals as goal
 

@@ -2,7 +2,6 @@ use native.Mathlib.Omega.{arith}
 use mathlib.Core.Path.{refl, sym}
 use lib.Seq.{length-take-le}
 use Rattle.server_text.proofs.LineLaws.{line-empty, line-cr, line-open}
-use borrow.Author.Rules.{rules}
 use Rattle.server_text.proofs.translate.Goals as goal
 
 pub returns-then-line-eq0 : goal.returns-then-line-eq0
@@ -20,5 +19,4 @@ returns-then-line-n-eq13 c =
 
 pub returns : goal.returns
 returns c =
-    rw (line-open c.args.line.now _ refl
-    c.if-line-n-eq13.false) c.translate_body-2.ensures
+    rw (line-open c.args.line.now _ refl (omega arith)) c.translate_body-2.ensures

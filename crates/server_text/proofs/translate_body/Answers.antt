@@ -1,7 +1,6 @@
 use mathlib.Core.Path.{refl, sym, ◌∙◌}
 use lib.Seq.{length-take-le}
 use Rattle.server_text.proofs.LineLaws.{body-unknown, body_open, body-row}
-use borrow.Author.Rules.{rules}
 use Rattle.server_text.proofs.translate_body.Goals as goal
 
 pub slice_bounds-word_of-end : goal.slice_bounds-word_of-end

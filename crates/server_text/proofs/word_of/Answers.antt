@@ -1,7 +1,6 @@
 use mathlib.Core.Path.{sym, ◌∙◌}
 use Rattle.octets.specs.Octets.{ascii}
 use Rattle.server_text.specs.Lines.{row_named}
-use borrow.Author.Rules.{rules}
 use Rattle.server_text.proofs.word_of.Goals as goal
 
 pub returns-then-equal : goal.returns-then-equal

@@ -1,5 +1,4 @@
 -- `text::answer` goes by what was built.
-use borrow.Author.Rules.{rules}
 use Rattle.text.proofs.answer.Goals as goal
 
 pub returns-in-Faulty : goal.returns-in-Faulty

@@ -1,7 +1,6 @@
 -- `text::build` goes by the ID.
-use borrow.Author.Rules.{rules}
 use native.Mathlib.Omega.{arith}
-use mathlib.Core.Path.{refl}
+use mathlib.Core.Path.{◌≡◌, refl}
 use mathlib.Core.Bool.{false}
 use Rattle.text.specs.Payload.{payload_for, hello_payload, one_payload, write_payload, no_payload, ping_payload}
 use Rattle.text.specs.PayloadPost.{has_field, has_version, stores}
@@ -43,10 +42,10 @@ pub returns-in-1 : goal.returns-in-1
 returns-in-1 c =
     let A = c.args in
     let f = c.one_field-in-1 in
-    let low = c.in-1.if-id-lt4-own.true in
+    let some_id : A.id ≡ 0 → ⊥ = omega arith in
     arm-for A.id A.line.now A.at A.buf.now one_payload
-    (λ fs. payload_for-one A.id fs c.in-1.in_default-own.rest.0.0.1 low) has_field
-    (λ x. stores-field A.id x c.in-1.in_default-own.rest.0.0.1 (λ e. omega arith) (λ e. omega arith)) f.result
+    (λ fs. payload_for-one A.id fs some_id (omega arith)) has_field
+    (λ x. stores-field A.id x some_id (omega arith) (omega arith)) f.result
     f.new.buf c.answer-in-1.result f.auto.buf f.ensures c.answer-in-1.ensures
 
 pub returns-in-5 : goal.returns-in-5
@@ -54,14 +53,12 @@ returns-in-5 c =
     let A = c.args in
     let f = c.no_field in
     arm-for A.id A.line.now A.at A.buf.now no_payload
-    (λ fs. payload_for-none A.id fs c.in-5.if-id-lt4-own.false c.in-5.in_default-own.rest.0.1
-    c.in-5.if-id-lt7-own.true) (λ x. false)
-    (λ x. stores-none A.id x c.in-5.if-id-lt4-own.false c.in-5.in_default-own.rest.0.1
-    c.in-5.if-id-lt7-own.true) f.result A.buf.now
+    (λ fs. payload_for-none A.id fs (omega arith) (omega arith) (omega arith)) (λ x. false)
+    (λ x. stores-none A.id x (omega arith) (omega arith) (omega arith)) f.result A.buf.now
     c.answer-in-5.result refl (f.ensures A.buf.now) c.answer-in-5.ensures
 
 pub returns-in_default : goal.returns-in_default
 returns-in_default c =
     let A = c.args in
     arm-none A.id A.line.now A.at A.buf.now
-    (λ fs. payload_for-other A.id fs c.in_default.if-id-lt7-own.false c.in_default.in_default-own.rest.1)
+    (λ fs. payload_for-other A.id fs (omega arith) (omega arith))

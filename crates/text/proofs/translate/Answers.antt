@@ -1,5 +1,4 @@
 -- `text::translate`: spaces, then the word, then its fields.
-use borrow.Author.Rules.{rules}
 use mathlib.Core.Path.{refl, sym, ◌∙◌}
 use Rattle.text.proofs.LineLaws.{line-blank, line-unknown, line_known, stores-known}
 use Rattle.text.proofs.translate.Goals as goal

@@ -1,5 +1,4 @@
 -- `wire::payload` goes by the kind.
-use borrow.Author.Rules.{rules}
 use Rattle.wire.specs.Post.{payload_in}
 use Rattle.wire.proofs.payload.Goals as goal
 

@@ -1,5 +1,4 @@
 -- `wire::read` goes by the kind.
-use borrow.Author.Rules.{rules}
 use Rattle.wire.proofs.Laws.{reads-packets, reads-framed, reads-stream}
 use Rattle.wire.proofs.read.Goals as goal
 

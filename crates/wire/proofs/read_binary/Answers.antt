@@ -1,5 +1,4 @@
 -- `wire::read_binary` takes the ID and what stands behind it.
-use borrow.Author.Rules.{rules}
 use Rattle.wire.proofs.Laws.{binary-nil, binary-cons}
 use Rattle.wire.proofs.read_binary.Goals as goal
 

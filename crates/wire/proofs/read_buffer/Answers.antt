@@ -1,5 +1,4 @@
 -- `wire::read_buffer` reads the first bytes of the buffer.
-use borrow.Author.Rules.{rules}
 use mathlib.Core.Path.{ap}
 use Rattle.wire.specs.declared.Reading.TheVariants.{Command}
 use Rattle.wire.proofs.read_buffer.Goals as goal

@@ -1,5 +1,4 @@
 -- `wire::read_line` goes by what the line is.
-use borrow.Author.Rules.{rules}
 use Rattle.wire.proofs.Laws.{line-blank, line_refused, line-message}
 use Rattle.wire.proofs.read_line.Goals as goal
 

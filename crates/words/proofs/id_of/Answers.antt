@@ -1,11 +1,8 @@
 -- `words::id_of`: no row before i names the word.
-use borrow.Author.Rules.{rules}
-use mathlib.Core.Path.{◌≡◌, sym, ap, ◌∙◌}
+use mathlib.Core.Path.{sym, ap, ◌∙◌}
 use mathlib.Core.List.{map}
-use Prim.Native.Nat.{◌≤◌, ◌-◌}
 use native.Mathlib.Omega.{arith}
-use lib.ListN.{drop}
-use Rattle.words.specs.Words.{words, lower, look_up, id_of}
+use Rattle.words.specs.Words.{lower}
 use Rattle.words.specs.Table.{named_of}
 use Rattle.words.proofs.Laws.{look_up-here, look_up-on, look_up-none, named-id, id_of-start}
 use Rattle.words.proofs.id_of.Goals as goal

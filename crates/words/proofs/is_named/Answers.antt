@@ -1,5 +1,4 @@
 -- `words::is_named` asks for the row's word, then for its letter.
-use borrow.Author.Rules.{rules}
 use mathlib.Core.Path.{sym, ◌∙◌}
 use mathlib.Core.List.{map}
 use lib.Seq.{length-take-le}

@@ -1,12 +1,6 @@
 -- `words::is_word`: the first i bytes are those of the word.
-use borrow.Author.Rules.{rules}
 use native.Mathlib.Omega.{arith}
-use mathlib.Core.Path.{◌≡◌, refl, sym, ◌∙◌}
-use mathlib.Core.List.{map}
-use Prim.Native.Nat.{◌-◌, ◌≤◌}
-use lib.ListN.{length, drop}
-use Rattle.words.specs.Words.{lower}
-use Rattle.octets.specs.Order.{same}
+use mathlib.Core.Path.{refl, sym, ◌∙◌}
 use Rattle.words.proofs.Laws.{not-word, word-no, word-yes, word-all}
 use Rattle.words.proofs.is_word.Goals as goal
 

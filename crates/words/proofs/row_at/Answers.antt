@@ -1,5 +1,4 @@
 -- `words::row_at`: the rows of the code are those of the table of words, computed.
-use borrow.Author.Rules.{rules}
 use Rattle.octets.specs.Octets.{ascii}
 use Rattle.words.specs.Words.{words}
 use Rattle.words.specs.Table.{no_entry, row_of}

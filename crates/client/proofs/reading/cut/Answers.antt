@@ -1,6 +1,5 @@
 use mathlib.Core.Path.{◌∙◌}
 use Rattle.client.proofs.ReadLaws.{first_message-packets, first_message-framed, first_message-stream}
-use borrow.Author.Rules.{rules}
 use Rattle.client.proofs.reading.cut.Goals as goal
 
 pub returns-in-Packets : goal.returns-in-Packets

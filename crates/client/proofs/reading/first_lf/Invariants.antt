@@ -1,10 +1,7 @@
-use borrow.Author.Rules.{rules}
 use mathlib.Core.Path.{◌≡◌}
 use Prim.Native.Nat.{◌≤◌, ◌+◌, ◌-◌}
-use native.Mathlib.Omega.{arith}
 use lib.ListN.{length, drop}
 use Rattle.client.specs.Reading.{first_lf}
-use Rattle.client.proofs.ReadLaws.{first_lf-here, first_lf-on, first_lf-none, first_lf-line_end, line_end-le}
 use Rattle.client.proofs.reading.first_lf.Given as goal
 
 abbrev pub invariant-loop-i : goal.invariant-loop-i

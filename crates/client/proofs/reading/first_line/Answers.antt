@@ -6,7 +6,6 @@ use lib.Seq.{length-take-le}
 use Rattle.protocol.specs.declared.Kind.TheVariants.{Text}
 use Rattle.client.specs.Reading.{length_in}
 use Rattle.client.proofs.ReadLaws.{length_in-le}
-use borrow.Author.Rules.{rules}
 use Rattle.client.proofs.reading.first_line.Goals as goal
 
 pub slice_bounds-result-end : goal.slice_bounds-result-end

@@ -1,4 +1,3 @@
-use borrow.Author.Rules.{rules}
 use Rattle.client.proofs.reading.is_whole.Goals as goal
 
 pub returns-in-Stream : goal.returns-in-Stream

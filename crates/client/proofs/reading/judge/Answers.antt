@@ -1,7 +1,6 @@
 use Rattle.server_text.specs.Fields.{suits}
 use Rattle.server_text.specs.Lines.{row_with}
 use Rattle.client.proofs.ReadLaws.{row-none}
-use borrow.Author.Rules.{rules}
 use Rattle.client.proofs.reading.judge.Goals as goal
 
 pub returns-in-128 : goal.returns-in-128

@@ -2,7 +2,6 @@ use mathlib.Core.Path.{sym, ap, ◌∙◌}
 use Prim.Native.Nat.{ℕ, ◌+◌}
 use native.Mathlib.Omega.{arith}
 use Rattle.client.proofs.ReadLaws.{lf_length-found, lf_length-none}
-use borrow.Author.Rules.{rules}
 use Rattle.client.proofs.reading.lf_length.Goals as goal
 
 pub returns-then-e-s : goal.returns-then-e-s

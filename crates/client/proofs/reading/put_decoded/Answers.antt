@@ -2,7 +2,6 @@ use mathlib.Core.Path.{sym, ap, ◌∙◌}
 use lib.Seq.{sets}
 use Rattle.octets.specs.Octets.{Bytes}
 use Rattle.client.proofs.ReadLaws.{decoded-long, decoded-short, decoded-done, result_eq, result-out}
-use borrow.Author.Rules.{rules}
 use Rattle.client.proofs.reading.put_decoded.Goals as goal
 
 pub returns-then-payload-gt65535 : goal.returns-then-payload-gt65535

@@ -1,7 +1,6 @@
 use mathlib.Core.Path.{sym, ◌∙◌}
 use native.Mathlib.Omega.{arith}
 use Rattle.client.proofs.ReadLaws.{decoded-long, decoded-short, result_eq, as-decoded, put-done}
-use borrow.Author.Rules.{rules}
 use Rattle.client.proofs.reading.put_line.Goals as goal
 
 pub returns-then-len-gt65535 : goal.returns-then-len-gt65535

@@ -1,7 +1,6 @@
 use mathlib.Core.Path.{sym, ◌∙◌}
 use lib.ListN.{length}
 use Rattle.client.proofs.ReadLaws.{result_eq, as-decoded, binary-nil, binary-cons}
-use borrow.Author.Rules.{rules}
 use Rattle.client.proofs.reading.read_binary.Goals as goal
 
 pub returns-then-m-eq0 : goal.returns-then-m-eq0

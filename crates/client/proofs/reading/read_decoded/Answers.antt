@@ -1,6 +1,5 @@
 use mathlib.Core.Path.{◌∙◌}
 use Rattle.client.proofs.ReadLaws.{result_eq, as-decoded}
-use borrow.Author.Rules.{rules}
 use Rattle.client.proofs.reading.read_decoded.Goals as goal
 
 pub returns-in-Message : goal.returns-in-Message

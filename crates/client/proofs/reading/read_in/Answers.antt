@@ -1,5 +1,4 @@
 -- `client::reading::read_in`: the first message, if it is whole.
-use borrow.Author.Rules.{rules}
 use mathlib.Core.Path.{sym, ap, ◌∙◌}
 use lib.ListN.{length}
 use Rattle.octets.specs.Octets.{Bytes}

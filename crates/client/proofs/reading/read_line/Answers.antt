@@ -1,7 +1,6 @@
 use mathlib.Core.Path.{sym, ◌∙◌}
 use Rattle.server_text.specs.Lines.{decoded_line}
 use Rattle.client.proofs.ReadLaws.{result_eq, as-decoded, measured, line_refused}
-use borrow.Author.Rules.{rules}
 use Rattle.client.proofs.reading.read_line.Goals as goal
 
 pub put_line-requires : goal.put_line-requires

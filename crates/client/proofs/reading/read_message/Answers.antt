@@ -1,6 +1,5 @@
 use Rattle.client.specs.Reading.{kind_of_form, read_message}
 use Rattle.client.proofs.WriteLaws.{kind-none}
-use borrow.Author.Rules.{rules}
 use Rattle.client.proofs.reading.read_message.Goals as goal
 
 pub returns-in-0 : goal.returns-in-0

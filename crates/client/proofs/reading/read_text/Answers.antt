@@ -2,7 +2,6 @@ use mathlib.Core.Path.{refl, sym}
 use native.Mathlib.Omega.{arith}
 use lib.Seq.{length-take-le}
 use Rattle.client.proofs.ReadLaws.{text-nil, text-line}
-use borrow.Author.Rules.{rules}
 use Rattle.client.proofs.reading.read_text.Goals as goal
 
 pub returns-then-m-eq0 : goal.returns-then-m-eq0

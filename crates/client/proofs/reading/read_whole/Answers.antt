@@ -1,5 +1,4 @@
 use Rattle.client.specs.Reading.{message_in}
-use borrow.Author.Rules.{rules}
 use Rattle.client.proofs.reading.read_whole.Goals as goal
 
 pub returns-in-Packets : goal.returns-in-Packets

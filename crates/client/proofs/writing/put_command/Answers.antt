@@ -1,6 +1,5 @@
 use mathlib.Core.Path.{◌∙◌}
 use Rattle.client.proofs.WriteLaws.{outcome-eq}
-use borrow.Author.Rules.{rules}
 use Rattle.client.proofs.writing.put_command.Goals as goal
 
 pub returns-in-Done : goal.returns-in-Done

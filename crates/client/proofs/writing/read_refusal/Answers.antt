@@ -1,5 +1,4 @@
 -- `client::writing::read_refusal`: what the server's reader of commands finds.
-use borrow.Author.Rules.{rules}
 use Rattle.client.proofs.WriteLaws.{verdict-is}
 use Rattle.client.proofs.writing.read_refusal.Goals as goal
 

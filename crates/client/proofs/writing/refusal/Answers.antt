@@ -1,5 +1,4 @@
 -- `client::writing::refusal`: by the length alone, or by what the server's reader finds.
-use borrow.Author.Rules.{rules}
 use mathlib.Core.Path.{sym, ap, ◌∙◌}
 use mathlib.Core.Logic.{inl, inr}
 use Rattle.client.specs.Promises.{verdict_of}

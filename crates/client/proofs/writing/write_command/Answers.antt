@@ -1,7 +1,6 @@
 use Rattle.client.specs.Reading.{kind_of_form}
 use Rattle.client.specs.Writing.{write_command}
 use Rattle.client.proofs.WriteLaws.{kind-none}
-use borrow.Author.Rules.{rules}
 use Rattle.client.proofs.writing.write_command.Goals as goal
 
 pub returns-in-0 : goal.returns-in-0

@@ -1,6 +1,5 @@
 use mathlib.Core.Path.{refl, sym, ◌∙◌}
 use Rattle.client.proofs.WriteLaws.{outcome-eq, write-nil, write-cons}
-use borrow.Author.Rules.{rules}
 use Rattle.client.proofs.writing.write_in.Goals as goal
 
 pub returns-then-command-eq0 : goal.returns-then-command-eq0

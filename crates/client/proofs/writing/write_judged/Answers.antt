@@ -1,7 +1,6 @@
 use mathlib.Core.Path.{sym, ◌∙◌}
 use Rattle.command.specs.Refusals.{verdict}
 use Rattle.client.proofs.WriteLaws.{outcome-eq, verdict-good, verdict-refused, taken}
-use borrow.Author.Rules.{rules}
 use Rattle.client.proofs.writing.write_judged.Goals as goal
 
 pub put_command-requires : goal.put_command-requires

@@ -1,4 +1,3 @@
-use borrow.Author.Rules.{rules}
 use native.Mathlib.Omega.{arith}
 use Rattle.message.proofs.FormLaws.{length_fields, length-ending, length-line}
 use Rattle.message.proofs.line.line_length.Goals as goal

@@ -1,4 +1,3 @@
-use borrow.Author.Rules.{rules}
 use borrow.Author.Tests.{lt-ltb, le-ltb}
 use Rattle.message.specs.Forms.{ending}
 use Rattle.message.proofs.line.put_ending.Goals as goal

@@ -1,4 +1,3 @@
-use borrow.Author.Rules.{rules}
 use mathlib.Core.List.{◌∷◌}
 use Rattle.message.specs.Quoting.{decimal}
 use Rattle.message.specs.Forms.{field, number_fields}

@@ -1,4 +1,3 @@
-use borrow.Author.Rules.{rules}
 use Rattle.message.specs.Forms.{field}
 use Rattle.message.proofs.Laws.{front_fits, rest-fits, writes-append}
 use Rattle.message.proofs.line.put_valued.Goals as goal

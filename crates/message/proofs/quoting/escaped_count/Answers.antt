@@ -1,9 +1,8 @@
 -- The invariant: n bytes are escaped among the first i.
-use borrow.Author.Rules.{rules}
 use native.Mathlib.Omega.{arith}
 use mathlib.Core.Path.{◌≡◌}
 use Prim.Native.Nat.{◌+◌, ◌-◌, ◌≤◌}
-use lib.ListN.{length, drop, take, length-take, length-drop}
+use lib.ListN.{drop, take, length-take, length-drop}
 use Rattle.message.specs.Quoting.{escaped}
 use Rattle.message.proofs.Laws.{escaped-block, escaped-drop-all, escaped-most}
 use Rattle.message.proofs.quoting.escaped_count.Goals as goal

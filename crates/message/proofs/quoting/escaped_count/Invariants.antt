@@ -1,10 +1,7 @@
-use borrow.Author.Rules.{rules}
-use native.Mathlib.Omega.{arith}
 use mathlib.Core.Path.{◌≡◌}
 use Prim.Native.Nat.{◌+◌, ◌-◌, ◌≤◌}
-use lib.ListN.{length, drop, take, length-take, length-drop}
+use lib.ListN.{length, drop}
 use Rattle.message.specs.Quoting.{escaped}
-use Rattle.message.proofs.Laws.{escaped-block, escaped-drop-all, escaped-most}
 use Rattle.message.proofs.quoting.escaped_count.Given as goal
 
 abbrev pub invariant-loop-i : goal.invariant-loop-i

@@ -1,4 +1,3 @@
-use borrow.Author.Rules.{rules}
 use native.Mathlib.Omega.{arith}
 use Rattle.message.proofs.Laws.{length-quote, escaped-most}
 use Rattle.message.proofs.quoting.field_length.Goals as goal

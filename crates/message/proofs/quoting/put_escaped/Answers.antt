@@ -1,12 +1,9 @@
 -- The invariant: the first i bytes are written, and `to` is the place after them.
-use borrow.Author.Rules.{rules}
 use native.Mathlib.Omega.{arith}
 use mathlib.Core.Path.{◌≡◌}
-use Prim.Native.Nat.{◌-◌, ◌≤◌}
-use lib.ListN.{length, take}
+use lib.ListN.{length}
 use lib.Seq.{take-length}
 use Rattle.message.specs.Quoting.{escapes}
-use Rattle.message.specs.Post.{Writes}
 use Rattle.message.proofs.Laws.{writes-none, length-writes, writes-escape, escape-fits}
 use Rattle.message.proofs.quoting.put_escaped.Goals as goal
 

@@ -5,14 +5,14 @@ use lib.ListN.{length, length-set}
 use Rattle.message.specs.Quoting.{escapes, quote}
 use Rattle.message.proofs.Laws.{length-field, length-writes, writes-append, writes_one, writes-two}
 use Rattle.message.proofs.quoting.put_field.Goals as goal
-use Rattle.message.proofs.quoting.put_field.Goals.{After-slice_known-2-1, Start}
+use Rattle.message.proofs.quoting.put_field.Goals.{After-put_bytes-to, Start}
 
 -- the room for the field
 room : (c : Start) → c.args.at + (3 + length (escapes c.args.s.now)) ≤ length c.args.out.now
 room c = omega (arith, length-field c.args.s.now)
 
 -- the stores and the call keep the length
-kept : (c : After-slice_known-2-1)
+kept : (c : After-put_bytes-to)
     → length c.put_bytes-to.new.out ≡ length
     c.args.out.now
 kept c = length-writes c.put_bytes-to.ensures ∙ simp length-set
@@ -35,7 +35,7 @@ put_bytes-to-requires c = let r = room (goal.at.put_bytes-to-requires c).Start i
 pub bounds-out-to : goal.bounds-out-to
 bounds-out-to c =
     let r = room (goal.at.bounds-out-to c).Start in
-    let k = kept (goal.at.bounds-out-to c).After-slice_known-2-1 in
+    let k = kept (goal.at.bounds-out-to c).After-put_bytes-to in
     omega (arith, c.put_bytes-to.ensures.past)
 
 pub overflow_add-result : goal.overflow_add-result
@@ -48,7 +48,7 @@ overflow_add-result c =
     )
 
 pub shape_of-out : goal.shape_of-out
-shape_of-out c = simp length-set (kept (goal.at.shape_of-out c).After-slice_known-2-1)
+shape_of-out c = simp length-set (kept (goal.at.shape_of-out c).After-put_bytes-to)
 
 pub returns : goal.returns
 unfolding quote

@@ -1,12 +1,10 @@
-use borrow.Author.Rules.{rules}
 use native.Mathlib.Omega.{arith}
 use mathlib.Core.Path.{◌≡◌, refl, sym, ap, ◌∙◌}
-use Prim.Native.Nat.{ℕ, ◌+◌, ◌-◌, ◌≤◌}
+use Prim.Native.Nat.{ℕ, ◌+◌}
 use lib.ListN.{get_or}
 use mathlib.Core.Bool.{Bool, ◌||◌}
 use lib.Dec.{eqb}
 use Rattle.octets.specs.Octets.{has_nul}
-use Rattle.octets.specs.Part.{part}
 use Rattle.octets.proofs.Nul.{has_nul-part-suc, eqb-min}
 use Rattle.octets.proofs.block.least_of_block.Goals as goal
 

@@ -1,4 +1,3 @@
-use borrow.Author.Rules.{rules}
 use mathlib.Core.Path.{◌≡◌, sym}
 use Rattle.octets.specs.Order.{order}
 use Rattle.octets.specs.declared.comparison.Order.TheVariants.{Less, Equal, Greater}

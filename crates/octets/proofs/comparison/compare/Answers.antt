@@ -1,10 +1,5 @@
-use borrow.Author.Rules.{rules}
 use native.Mathlib.Omega.{arith}
-use mathlib.Core.Path.{◌≡◌, refl, sym, ◌∙◌}
-use Prim.Native.Nat.{◌-◌, ◌≤◌, min as least}
-use lib.ListN.{length, drop}
-use Rattle.octets.specs.Octets.{Bounded}
-use Rattle.octets.specs.Order.{order}
+use mathlib.Core.Path.{refl, sym, ◌∙◌}
 use Rattle.octets.proofs.Words.{both, order-word-less, order-word-same, order-word-greater}
 use Rattle.octets.proofs.comparison.compare.Goals as goal
 
@@ -13,8 +8,8 @@ loop-i-init c = (
   omega arith,
   c.min-n.ensures,
   refl,
-  λ i. omega (arith, c.shared_slice_known-1.given i),
-  λ i. omega (arith, c.shared_slice_known-2-1.given i),
+  λ i. omega (arith, c.type_inv.a i),
+  λ i. omega (arith, c.type_inv.b i),
 )
 
 pub returns-then-x-y : goal.returns-then-x-y

@@ -1,11 +1,8 @@
-use borrow.Author.Rules.{rules}
-use native.Mathlib.Omega.{arith}
-use mathlib.Core.Path.{◌≡◌, refl, sym, ◌∙◌}
+use mathlib.Core.Path.{◌≡◌}
 use Prim.Native.Nat.{◌-◌, ◌≤◌, min as least}
 use lib.ListN.{length, drop}
 use Rattle.octets.specs.Octets.{Bounded}
 use Rattle.octets.specs.Order.{order}
-use Rattle.octets.proofs.Words.{both, order-word-less, order-word-same, order-word-greater}
 use Rattle.octets.proofs.comparison.compare.Given as goal
 
 -- the bytes before i are equal

@@ -1,9 +1,5 @@
-use borrow.Author.Rules.{rules}
 use native.Mathlib.Omega.{arith}
-use mathlib.Core.Path.{◌≡◌, refl, sym, ◌∙◌}
-use Prim.Native.Nat.{◌-◌}
-use lib.ListN.{length, drop}
-use Rattle.octets.specs.Order.{order}
+use mathlib.Core.Path.{refl, sym, ◌∙◌}
 use Rattle.octets.proofs.Words.{order-byte-less, order-byte-greater, order-byte-same, order-longer}
 use Rattle.octets.proofs.Words.{order-shorter, order-ended}
 use Rattle.octets.proofs.comparison.compare_bytes.Goals as goal

@@ -1,10 +1,6 @@
-use borrow.Author.Rules.{rules}
 use native.Mathlib.Omega.{arith}
-use mathlib.Core.Path.{◌≡◌, refl, sym, ap, ◌∙◌}
-use Prim.Native.Nat.{◌-◌, ◌≤◌}
-use lib.ListN.{length, drop}
-use Rattle.octets.specs.Octets.{Bounded}
-use Rattle.octets.specs.Order.{same}
+use mathlib.Core.Path.{refl, sym, ap, ◌∙◌}
+use lib.ListN.{length}
 use Rattle.octets.proofs.Orders.{ne_same}
 use Rattle.octets.proofs.Words.{both, same-word-same, same-word-other}
 use Rattle.octets.proofs.comparison.equal.Goals as goal
@@ -18,8 +14,8 @@ loop-i-init c = (
   omega arith,
   omega arith,
   refl,
-  λ i. omega (arith, c.shared_slice_known-1.given i),
-  λ i. omega (arith, c.shared_slice_known-2-1.given i),
+  λ i. omega (arith, c.type_inv.a i),
+  λ i. omega (arith, c.type_inv.b i),
 )
 
 pub returns-then-word_at : goal.returns-then-word_at

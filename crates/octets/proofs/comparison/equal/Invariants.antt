@@ -1,12 +1,8 @@
-use borrow.Author.Rules.{rules}
-use native.Mathlib.Omega.{arith}
-use mathlib.Core.Path.{◌≡◌, refl, sym, ap, ◌∙◌}
+use mathlib.Core.Path.{◌≡◌}
 use Prim.Native.Nat.{◌-◌, ◌≤◌}
 use lib.ListN.{length, drop}
 use Rattle.octets.specs.Octets.{Bounded}
 use Rattle.octets.specs.Order.{same}
-use Rattle.octets.proofs.Orders.{ne_same}
-use Rattle.octets.proofs.Words.{both, same-word-same, same-word-other}
 use Rattle.octets.proofs.comparison.equal.Given as goal
 
 -- the bytes before i are equal

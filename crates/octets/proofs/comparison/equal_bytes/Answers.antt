@@ -1,9 +1,5 @@
-use borrow.Author.Rules.{rules}
 use native.Mathlib.Omega.{arith}
-use mathlib.Core.Path.{◌≡◌, refl, sym, ◌∙◌}
-use Prim.Native.Nat.{◌-◌}
-use lib.ListN.{length, drop}
-use Rattle.octets.specs.Order.{same}
+use mathlib.Core.Path.{refl, sym, ◌∙◌}
 use Rattle.octets.proofs.Words.{same-byte-same, same-byte-other, same_ended}
 use Rattle.octets.proofs.comparison.equal_bytes.Goals as goal
 

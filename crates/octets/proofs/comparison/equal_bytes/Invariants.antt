@@ -1,10 +1,7 @@
-use borrow.Author.Rules.{rules}
-use native.Mathlib.Omega.{arith}
-use mathlib.Core.Path.{◌≡◌, refl, sym, ◌∙◌}
+use mathlib.Core.Path.{◌≡◌}
 use Prim.Native.Nat.{◌-◌}
 use lib.ListN.{length, drop}
 use Rattle.octets.specs.Order.{same}
-use Rattle.octets.proofs.Words.{same-byte-same, same-byte-other, same_ended}
 use Rattle.octets.proofs.comparison.equal_bytes.Given as goal
 
 -- the bytes before i are equal

@@ -1,10 +1,7 @@
-use borrow.Author.Rules.{rules}
 use native.Mathlib.Omega.{arith}
-use mathlib.Core.Path.{◌≡◌, refl, sym, ap₂, ◌∙◌}
+use mathlib.Core.Path.{refl, sym, ap₂, ◌∙◌}
 use Prim.Native.Nat.{◌+◌, ◌-◌}
 use lib.Dec.{ltb}
-use lib.ListN.{take}
-use Rattle.octets.specs.Octets.{Bounded}
 use Rattle.octets.proofs.Words.{both, take-le, take-word-same, before-word-other, before-length}
 use Rattle.octets.proofs.comparison.precedes.Goals as goal
 
@@ -14,8 +11,8 @@ returns-then-n-lt8 c = c.bytes_precede.ensures
 pub loop-i-init : goal.loop-i-init
 loop-i-init c = (
   refl,
-  λ i. omega (arith, c.shared_slice_known-1.given i),
-  λ i. omega (arith, c.shared_slice_known-2-1.given i),
+  λ i. omega (arith, c.type_inv.a i),
+  λ i. omega (arith, c.type_inv.b i),
 )
 
 pub returns-then-x-y : goal.returns-then-x-y

@@ -1,11 +1,7 @@
-use borrow.Author.Rules.{rules}
-use native.Mathlib.Omega.{arith}
-use mathlib.Core.Path.{◌≡◌, refl, sym, ap₂, ◌∙◌}
-use Prim.Native.Nat.{◌+◌, ◌-◌}
-use lib.Dec.{ltb}
+use mathlib.Core.Path.{◌≡◌}
+use Prim.Native.Nat.{◌-◌}
 use lib.ListN.{take}
 use Rattle.octets.specs.Octets.{Bounded}
-use Rattle.octets.proofs.Words.{both, take-le, take-word-same, before-word-other, before-length}
 use Rattle.octets.proofs.comparison.precedes.Given as goal
 
 -- the bytes before i are equal

@@ -1,11 +1,8 @@
-use borrow.Author.Rules.{rules}
-use native.Mathlib.Omega.{arith}
-use mathlib.Core.Path.{◌≡◌, refl}
+use mathlib.Core.Path.{◌≡◌}
 use Prim.Native.Nat.{◌-◌, ◌≤◌}
-use lib.ListN.{length, length-set}
+use lib.ListN.{length}
 use lib.Seq.{sets}
 use Rattle.octets.specs.Part.{part}
-use Rattle.octets.proofs.Turns.{move-down-turn}
 use Rattle.octets.proofs.moving.move_down.Given as goal
 
 -- the first i bytes of the range are moved

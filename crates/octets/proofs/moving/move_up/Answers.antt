@@ -1,11 +1,8 @@
-use borrow.Author.Rules.{rules}
 use native.Mathlib.Omega.{arith}
 use mathlib.Core.Path.{◌≡◌, refl}
-use Prim.Native.Nat.{◌+◌, ◌-◌, ◌≤◌}
+use Prim.Native.Nat.{◌+◌, ◌-◌}
 use native.Mathlib.Nat.{add-zero, sub-zero}
-use lib.ListN.{length, length-set}
-use lib.Seq.{sets}
-use Rattle.octets.specs.Part.{part}
+use lib.ListN.{length-set}
 use Rattle.octets.proofs.Turns.{move-up-turn}
 use Rattle.octets.proofs.moving.move_up.Goals as goal
 

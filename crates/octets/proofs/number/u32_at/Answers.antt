@@ -1,4 +1,3 @@
-use borrow.Author.Rules.{rules}
 use native.Mathlib.Omega.{arith}
 use Rattle.octets.proofs.Numbers.{number_at-suc, number_at-one}
 use Rattle.octets.proofs.number.u32_at.Goals as goal

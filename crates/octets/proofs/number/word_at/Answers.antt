@@ -1,4 +1,3 @@
-use borrow.Author.Rules.{rules}
 use native.Mathlib.Omega.{arith}
 use Rattle.octets.proofs.Numbers.{number_at-add}
 use Rattle.octets.proofs.number.word_at.Goals as goal

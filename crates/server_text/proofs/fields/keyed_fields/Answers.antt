@@ -1,6 +1,5 @@
 use native.Mathlib.Omega.{arith}
 use Rattle.server_text.proofs.PayloadLaws.{keyed-nul, keyed-built, keyed-bad, keyed-malformed}
-use borrow.Author.Rules.{rules}
 use Rattle.server_text.proofs.fields.keyed_fields.Goals as goal
 
 pub returns-then-nul : goal.returns-then-nul
@@ -27,7 +26,7 @@ returns-in-Bad c =
 
 pub returns-in-Payload : goal.returns-in-Payload
 returns-in-Payload c =
-    keyed-built (rw c.in-String.is at c.string_field-k.ensures) c.if-nul.false
+    keyed-built (rw c.in-String.is at c.string_field-k.ensures) (cc)
     (rw c.in-Payload.is at c.value_tail-v.ensures)
 
 pub returns-in-Faulty : goal.returns-in-Faulty

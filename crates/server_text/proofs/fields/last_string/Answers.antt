@@ -1,6 +1,5 @@
 use native.Mathlib.Omega.{arith}
 use Rattle.server_text.proofs.PayloadLaws.{last-is, last_more, last-bad}
-use borrow.Author.Rules.{rules}
 use Rattle.server_text.proofs.fields.last_string.Goals as goal
 
 pub returns-then-next-line : goal.returns-then-next-line

@@ -1,5 +1,4 @@
 -- `server_text::fields::led_string`: a byte before the string's bytes.
-use borrow.Author.Rules.{rules}
 use native.Mathlib.Nat.{le_refl}
 use native.Mathlib.Omega.{arith}
 use Rattle.server_text.proofs.PayloadLaws.{led, led-none}

@@ -1,5 +1,5 @@
 -- `server_text::fields::number_in`: no digit, one digit, a leading zero, or several digits.
-use borrow.Author.Rules.{rules}
+use native.Mathlib.Omega.{arith}
 use mathlib.Core.Path.{sym, ap, ◌∙◌}
 use Rattle.text.specs.PayloadPost.{number_of}
 use Rattle.server_text.proofs.PayloadLaws.{number-none, number-one, number-led, number-several}
@@ -19,5 +19,4 @@ returns-then-w-eq48 c =
 pub returns : goal.returns
 returns c =
     c.number_of-2.ensures
-    ∙ sym (ap number_of (number-several c.args.w.now c.if-w-eq0.false c.if-w-eq1.false
-    c.if-w-eq48.false))
+    ∙ sym (ap number_of (number-several c.args.w.now (omega arith) (omega arith) (omega arith)))

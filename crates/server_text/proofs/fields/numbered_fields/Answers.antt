@@ -1,5 +1,4 @@
 -- `server_text::fields::numbered_fields`: a space, a number up to the next space, and a string.
-use borrow.Author.Rules.{rules}
 use native.Mathlib.Omega.{arith}
 use mathlib.Core.Path.{sym, ◌∙◌}
 use mathlib.Core.List.{◌∷◌}

@@ -3,7 +3,6 @@ use lib.ListN.{length, drop}
 use native.Mathlib.Omega.{arith}
 use Rattle.server_text.specs.Fields.{string_in, last_of, bare_in, payload_in}
 use Rattle.server_text.proofs.LineLaws.{builds-most}
-use borrow.Author.Rules.{rules}
 use Rattle.server_text.proofs.fields.payload_at.Goals as goal
 
 pub returns-in-Numbered : goal.returns-in-Numbered

@@ -1,6 +1,5 @@
 use native.Mathlib.Omega.{arith}
 use Rattle.server_text.proofs.PayloadLaws.{string-short, string-space, string-mark, string-on}
-use borrow.Author.Rules.{rules}
 use Rattle.server_text.proofs.fields.string_field.Goals as goal
 
 pub returns-then-line-at-lt2 : goal.returns-then-line-at-lt2

@@ -1,5 +1,4 @@
 -- `server_text::fields::value_tail`: nothing, or NUL and a value.
-use borrow.Author.Rules.{rules}
 use native.Mathlib.Omega.{arith}
 use Rattle.server_text.proofs.PayloadLaws.{value_none, value_on}
 use Rattle.server_text.proofs.fields.value_tail.Goals as goal

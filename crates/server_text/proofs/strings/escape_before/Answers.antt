@@ -1,5 +1,4 @@
 -- `server_text::strings::escape_before` is its definition, arm by arm.
-use borrow.Author.Rules.{rules}
 use mathlib.Core.Path.{sym, ◌∙◌}
 use Rattle.server_text.proofs.strings.escape_before.Goals as goal
 

@@ -1,5 +1,4 @@
 -- `server_text::strings::mark_at`: the closing mark, an escape, or a byte that may not stand raw.
-use borrow.Author.Rules.{rules}
 use native.Mathlib.Omega.{arith}
 use Rattle.server_text.proofs.ScanLaws.{exact-close, exact-fault, escape-short, escape-at}
 use Rattle.server_text.proofs.strings.mark_at.Goals as goal

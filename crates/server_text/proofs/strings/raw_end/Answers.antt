@@ -3,9 +3,9 @@ use borrow.Author.Rules.{rules}
 use mathlib.Core.Path.{◌≡◌, sym, ap, ◌∙◌}
 use Prim.Native.Nat.{ℕ, ◌+◌, ◌-◌}
 use native.Mathlib.Omega.{arith}
-use lib.ListN.{length, take, drop}
+use lib.ListN.{take, drop}
 use Rattle.message.specs.Quoting.{escaped}
-use Rattle.server_text.proofs.ScanLaws.{Raw, raw-start, raw-more, raw-then}
+use Rattle.server_text.proofs.ScanLaws.{raw-start, raw-more, raw-then}
 use Rattle.server_text.proofs.strings.raw_end.Goals as goal
 
 pub overflow_sub-line : goal.overflow_sub-line
@@ -23,7 +23,7 @@ loop-i-preserved c =
     let i = c.loop-i.i in
     let n : i + 32 - i ≡ 32 = omega arith in
     let e : escaped (take 32 (drop i line)) ≡ 0 =
-    sym (ap (λ (k : ℕ). escaped (take k (drop i line))) n) ∙ sym c.escaped_in-n.ensures ∙ c.if-n-ne0.false in
+    sym (ap (λ (k : ℕ). escaped (take k (drop i line))) n) ∙ sym c.escaped_in-n.ensures ∙ omega arith in
     raw-more c.loop-i.invariant 32 (omega arith) e
 
 pub loop-i-init : goal.loop-i-init

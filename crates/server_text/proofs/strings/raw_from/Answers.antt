@@ -1,9 +1,7 @@
 -- `server_text::strings::raw_from`: all bytes from `at` to i stand raw.
 use borrow.Author.Rules.{rules}
 use mathlib.Core.Path.{sym, ◌∙◌}
-use Prim.Native.Nat.{◌-◌}
-use lib.ListN.{length}
-use Rattle.server_text.proofs.ScanLaws.{Raw, raw-start, raw-on, raw-stop, raw-all}
+use Rattle.server_text.proofs.ScanLaws.{raw-start, raw-on, raw-stop, raw-all}
 use Rattle.server_text.proofs.strings.raw_from.Goals as goal
 
 pub returns-then-escaped : goal.returns-then-escaped

@@ -1,8 +1,6 @@
-use borrow.Author.Rules.{rules}
-use mathlib.Core.Path.{sym, ◌∙◌}
 use Prim.Native.Nat.{◌-◌}
 use lib.ListN.{length}
-use Rattle.server_text.proofs.ScanLaws.{Raw, raw-start, raw-on, raw-stop, raw-all}
+use Rattle.server_text.proofs.ScanLaws.{Raw}
 use Rattle.server_text.proofs.strings.raw_from.Given as goal
 
 abbrev pub invariant-loop-i : goal.invariant-loop-i

@@ -1,9 +1,7 @@
 -- `server_text::strings::string_at`: in each turn a run of raw bytes is copied, and behind it stands a mark.
 use borrow.Author.Rules.{rules}
 use native.Mathlib.Omega.{arith}
-use Prim.Native.Nat.{◌-◌}
-use lib.ListN.{length}
-use Rattle.text.proofs.ScanLaws.{Scanning, scan-start, scan-byte, scan-close, scan-bad, scan-length}
+use Rattle.text.proofs.ScanLaws.{scan-start, scan-byte, scan-close, scan-bad, scan-length}
 use Rattle.server_text.specs.Strings.{exact}
 use Rattle.server_text.proofs.ScanLaws.{scan-raw, exact-end}
 use Rattle.server_text.proofs.strings.string_at.Goals as goal

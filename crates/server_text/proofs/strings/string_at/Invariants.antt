@@ -1,10 +1,7 @@
-use borrow.Author.Rules.{rules}
-use native.Mathlib.Omega.{arith}
 use Prim.Native.Nat.{◌-◌}
 use lib.ListN.{length}
-use Rattle.text.proofs.ScanLaws.{Scanning, scan-start, scan-byte, scan-close, scan-bad, scan-length}
+use Rattle.text.proofs.ScanLaws.{Scanning}
 use Rattle.server_text.specs.Strings.{exact}
-use Rattle.server_text.proofs.ScanLaws.{scan-raw, exact-end}
 use Rattle.server_text.proofs.strings.string_at.Given as goal
 
 abbrev pub invariant-loop-i : goal.invariant-loop-i

@@ -1,24 +1,9 @@
 -- `text::fields::char_at`: by the byte at i, and by what follows a quote or a backslash.
-use borrow.Author.Rules.{rules}
 use native.Mathlib.Omega.{arith}
 use mathlib.Core.Path.{sym, ◌∙◌}
-use Rattle.text.proofs.ScanLaws.{quoted-byte, close-last, close-space, close-bad, escape-byte, escape-bad}
+use Rattle.text.proofs.ScanLaws.{quoted-byte, close-last, escape-byte, escape-bad}
 use Rattle.text.proofs.ScanLaws.{escape-short}
 use Rattle.text.proofs.fields.char_at.Goals as goal
-
-pub returns-then-line-i-eq32 : goal.returns-then-line-i-eq32
-returns-then-line-i-eq32 c =
-    let A = c.args in
-    record {
-      on = omega arith;
-      within = omega arith;
-      is = close-space A.line.now A.i (omega arith)
-          c.if-c-eq34.true c.if-line-i-eq32.true;
-    }
-
-pub returns-then-i-line : goal.returns-then-i-line
-returns-then-i-line c = let A = c.args in
-    close-bad A.line.now A.i (omega arith) c.if-c-eq34.true c.if-line-i-eq32.false
 
 pub returns-then-c-eq34 : goal.returns-then-c-eq34
 returns-then-c-eq34 c =

@@ -1,6 +1,5 @@
 -- `text::fields::is_ended`: spaces to the end.
 use Rattle.text.proofs.PayloadLaws.{is-ended}
-use borrow.Author.Rules.{rules}
 use Rattle.text.proofs.fields.is_ended.Goals as goal
 
 pub returns : goal.returns

@@ -1,7 +1,6 @@
 -- `text::fields::next_field`: spaces, then a quoted or a plain field.
 use mathlib.Core.Path.{refl}
 use Rattle.text.proofs.PayloadLaws.{next-none, found-quoted, found_plain}
-use borrow.Author.Rules.{rules}
 use Rattle.text.proofs.fields.next_field.Goals as goal
 
 pub returns-then-line-i : goal.returns-then-line-i

@@ -1,10 +1,8 @@
 -- `text::fields::quoted_field`: the n bytes that stand from `at` to i are stored from `to` on.
 use borrow.Author.Rules.{rules}
 use native.Mathlib.Omega.{arith}
-use Prim.Native.Nat.{◌-◌}
-use lib.ListN.{length}
 use Rattle.text.specs.Fields.{quoted}
-use Rattle.text.proofs.ScanLaws.{Scanning, scan-start, scan-byte, scan-close, scan-bad, scan-length}
+use Rattle.text.proofs.ScanLaws.{scan-start, scan-byte, scan-close, scan-bad, scan-length}
 use Rattle.text.proofs.ScanLaws.{quoted-end}
 use Rattle.text.proofs.fields.quoted_field.Goals as goal
 

@@ -1,10 +1,7 @@
-use borrow.Author.Rules.{rules}
-use native.Mathlib.Omega.{arith}
 use Prim.Native.Nat.{◌-◌}
 use lib.ListN.{length}
 use Rattle.text.specs.Fields.{quoted}
-use Rattle.text.proofs.ScanLaws.{Scanning, scan-start, scan-byte, scan-close, scan-bad, scan-length}
-use Rattle.text.proofs.ScanLaws.{quoted-end}
+use Rattle.text.proofs.ScanLaws.{Scanning}
 use Rattle.text.proofs.fields.quoted_field.Given as goal
 
 abbrev pub invariant-loop-i : goal.invariant-loop-i

@@ -1,11 +1,6 @@
 -- `text::fields::skip_spaces`: from `at` to i there are spaces only.
-use borrow.Author.Rules.{rules}
 use native.Mathlib.Omega.{arith}
-use mathlib.Core.Path.{◌≡◌, refl, ◌∙◌}
-use Prim.Native.Nat.{◌-◌}
-use lib.ListN.{length, drop}
-use Rattle.text.specs.Fields.{trim}
-use Rattle.text.specs.FieldPost.{Place}
+use mathlib.Core.Path.{refl, ◌∙◌}
 use Rattle.text.proofs.ScanLaws.{trim-stop, trim-on, trim_end}
 use Rattle.text.proofs.fields.skip_spaces.Goals as goal
 

@@ -1,11 +1,8 @@
-use borrow.Author.Rules.{rules}
-use native.Mathlib.Omega.{arith}
-use mathlib.Core.Path.{◌≡◌, refl, ◌∙◌}
+use mathlib.Core.Path.{◌≡◌}
 use Prim.Native.Nat.{◌-◌}
 use lib.ListN.{length, drop}
 use Rattle.text.specs.Fields.{trim}
 use Rattle.text.specs.FieldPost.{Place}
-use Rattle.text.proofs.ScanLaws.{trim-stop, trim-on, trim_end}
 use Rattle.text.proofs.fields.skip_spaces.Given as goal
 
 abbrev pub invariant-loop-i : goal.invariant-loop-i

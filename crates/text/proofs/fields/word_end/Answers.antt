@@ -1,8 +1,6 @@
 -- `text::fields::word_end`: from `at` to i there is no space.
 use borrow.Author.Rules.{rules}
-use Prim.Native.Nat.{◌-◌}
-use lib.ListN.{length}
-use Rattle.text.proofs.ScanLaws.{Spelling, spelling-start, spelling-on, spelling-stop, spelling-end}
+use Rattle.text.proofs.ScanLaws.{spelling-start, spelling-on, spelling-stop, spelling-end}
 use Rattle.text.proofs.fields.word_end.Goals as goal
 
 pub loop-i-init : goal.loop-i-init

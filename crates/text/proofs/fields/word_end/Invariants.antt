@@ -1,7 +1,6 @@
-use borrow.Author.Rules.{rules}
 use Prim.Native.Nat.{◌-◌}
 use lib.ListN.{length}
-use Rattle.text.proofs.ScanLaws.{Spelling, spelling-start, spelling-on, spelling-stop, spelling-end}
+use Rattle.text.proofs.ScanLaws.{Spelling}
 use Rattle.text.proofs.fields.word_end.Given as goal
 
 abbrev pub invariant-loop-i : goal.invariant-loop-i

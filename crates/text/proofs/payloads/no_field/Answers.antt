@@ -3,7 +3,6 @@ use mathlib.Core.Path.{refl, sym, ◌∙◌}
 use mathlib.Core.Option.{some}
 use mathlib.Core.List.{[]}
 use Rattle.text.proofs.PayloadLaws.{nothing, ended_is, pay-more}
-use borrow.Author.Rules.{rules}
 use Rattle.text.proofs.payloads.no_field.Goals as goal
 
 pub returns-then-last : goal.returns-then-last

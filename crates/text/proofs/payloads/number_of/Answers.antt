@@ -1,10 +1,6 @@
 -- `text::payloads::number_of`: n is the number that the first i digits spell.
-use borrow.Author.Rules.{rules}
 use native.Mathlib.Omega.{arith}
-use mathlib.Core.Path.{◌≡◌, refl, sym, ap, ◌∙◌}
-use Prim.Native.Nat.{◌-◌, ◌≤◌, ◌<◌}
-use lib.ListN.{length, drop}
-use Rattle.text.specs.Payload.{number_from}
+use mathlib.Core.Path.{refl, sym, ap, ◌∙◌}
 use Rattle.text.specs.PayloadPost.{number_of}
 use Rattle.text.proofs.NumberLaws.{number-big, number-on, number-low, number-high, number-end}
 use Rattle.text.proofs.payloads.number_of.Goals as goal

@@ -1,11 +1,7 @@
-use borrow.Author.Rules.{rules}
-use native.Mathlib.Omega.{arith}
-use mathlib.Core.Path.{◌≡◌, refl, sym, ap, ◌∙◌}
+use mathlib.Core.Path.{◌≡◌}
 use Prim.Native.Nat.{◌-◌, ◌≤◌, ◌<◌}
 use lib.ListN.{length, drop}
 use Rattle.text.specs.Payload.{number_from}
-use Rattle.text.specs.PayloadPost.{number_of}
-use Rattle.text.proofs.NumberLaws.{number-big, number-on, number-low, number-high, number-end}
 use Rattle.text.proofs.payloads.number_of.Given as goal
 
 abbrev pub invariant-loop-i : goal.invariant-loop-i

@@ -1,5 +1,4 @@
 -- `text::payloads::one_field`: nothing, or a field and nothing after it.
-use borrow.Author.Rules.{rules}
 use mathlib.Core.Path.{sym, ◌∙◌}
 use lib.ListN.{drop}
 use Rattle.text.proofs.PayloadLaws.{nothing, fails-missing, fails-faulty, one-built, one_more}

@@ -3,7 +3,6 @@ use native.Mathlib.Omega.{arith}
 use mathlib.Core.Path.{sym, ◌∙◌}
 use lib.ListN.{drop}
 use Rattle.text.proofs.PayloadLaws.{value_none, value-bad, value-built, value-more}
-use borrow.Author.Rules.{rules}
 use Rattle.text.proofs.payloads.value_field.Goals as goal
 
 pub is_ended-last-requires : goal.is_ended-last-requires

@@ -4,7 +4,6 @@ use Prim.Native.Nat.{◌+◌}
 use mathlib.Core.Path.{sym, ◌∙◌}
 use lib.ListN.{drop}
 use Rattle.text.proofs.PayloadLaws.{next-none, next-quoted, hello-quoted, version-plain, version-bad}
-use borrow.Author.Rules.{rules}
 use Rattle.text.proofs.payloads.version_field.Goals as goal
 
 pub returns-then-line-i : goal.returns-then-line-i

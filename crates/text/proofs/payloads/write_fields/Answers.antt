@@ -2,7 +2,6 @@
 use native.Mathlib.Omega.{arith}
 use lib.ListN.{drop}
 use Rattle.text.proofs.PayloadLaws.{fails-missing, fails-faulty, write-nul, write-built, write-bad}
-use borrow.Author.Rules.{rules}
 use Rattle.text.proofs.payloads.write_fields.Goals as goal
 
 pub returns-then-nul : goal.returns-then-nul

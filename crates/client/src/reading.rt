@@ -104,6 +104,7 @@ fn refused(r: Refusal, n: usize) -> Read
 
 // What an ID and a payload are: a message, unless no server message has the ID or the payload lacks
 // its number.
+#[tactic(auto, unfolding(server_text::specs::Lines::row_with, server_text::specs::Fields::suits))]
 fn judge(id: u8, payload: &[u8]) -> Judged
     ensures { judged_as result id payload.now
         ≡ of_binary (row_with id server_rows) payload.now }

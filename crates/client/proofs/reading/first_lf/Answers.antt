@@ -17,7 +17,7 @@ returns-then-s-i-eq10 c =
 
 pub loop-i-preserved : goal.loop-i-preserved
 loop-i-preserved c =
-    let h = first_lf-on c.args.s.now c.loop-i.i c.loop-i-test.true c.if-s-i-eq10.false in
+    let h = first_lf-on c.args.s.now c.loop-i.i c.loop-i-test.true (omega arith) in
     (omega arith, omega arith)
 
 pub returns : goal.returns

@@ -1,3 +1,4 @@
+use native.Mathlib.Omega.{arith}
 use mathlib.Core.Path.{sym, ap, ◌∙◌}
 use lib.Seq.{sets}
 use Rattle.octets.specs.Octets.{Bytes}
@@ -13,10 +14,10 @@ returns-then-payload-gt65535 c =
 pub returns-then-out-payload : goal.returns-then-out-payload
 returns-then-out-payload c =
     let A = c.args in
-    sym (decoded-short A.n A.id A.payload.now A.out.now c.if-payload-gt65535.false c.if-out-payload.true)
+    sym (decoded-short A.n A.id A.payload.now A.out.now (omega arith) (omega arith))
 
 pub returns : goal.returns
 returns c =
     let A = c.args in
     result-out 0 _ _ (c.copy.ensures ∙ ap (λ (l : Bytes). sets l 1 A.payload.now) c.put.ensures)
-    ∙ sym (decoded-done A.n A.id A.payload.now A.out.now c.if-payload-gt65535.false c.if-out-payload.false)
+    ∙ sym (decoded-done A.n A.id A.payload.now A.out.now (omega arith) (omega arith))

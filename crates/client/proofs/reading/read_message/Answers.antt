@@ -1,3 +1,4 @@
+use native.Mathlib.Omega.{arith}
 use Rattle.client.specs.Reading.{kind_of_form, read_message}
 use Rattle.client.proofs.WriteLaws.{kind-none}
 use Rattle.client.proofs.reading.read_message.Goals as goal
@@ -20,4 +21,4 @@ returns-in-2 c =
 pub returns-in_default : goal.returns-in_default
 unfolding read_message
 returns-in_default c =
-    rw (kind-none c.args.form c.in_default.in_default-own.rest.0.0.1 c.in_default.in_default-own.rest.0.1 c.in_default.in_default-own.rest.1)
+    rw (kind-none c.args.form (omega arith) (omega arith) (omega arith))

@@ -1,6 +1,5 @@
 use Rattle.slot.proofs.Operations.{becomes-free}
 use Rattle.slot.proofs.close.Goals as goal
 
--- src/lib.rt:68:1
 pub returns : goal.returns
 returns c = λ R. becomes-free R c.args.s.now c.requires

@@ -2,23 +2,19 @@ use borrow.Author.Tests.{eq-eqb, ne_eqb}
 use Rattle.slot.specs.Region.{kind_numbered}
 use Rattle.slot.proofs.kind_numbered.Goals as goal
 
--- src/lib.rt:36:9
 pub returns-then-n-eq0 : goal.returns-then-n-eq0
 unfolding kind_numbered
 returns-then-n-eq0 c = rw (eq-eqb c.args.n 0 c.if-n-eq0.true)
 
--- src/lib.rt:39:9
 pub returns-then-n-eq1 : goal.returns-then-n-eq1
 unfolding kind_numbered
 returns-then-n-eq1 c = rw (ne_eqb c.args.n 0 c.if-n-eq0.false, eq-eqb c.args.n 1 c.if-n-eq1.true)
 
--- src/lib.rt:42:9
 pub returns-then-n-eq2 : goal.returns-then-n-eq2
 unfolding kind_numbered
 returns-then-n-eq2 c =
     rw (ne_eqb c.args.n 0 c.if-n-eq0.false, ne_eqb c.args.n 1 c.if-n-eq1.false, eq-eqb c.args.n 2 c.if-n-eq2.true)
 
--- src/lib.rt:32:1
 pub returns : goal.returns
 unfolding kind_numbered
 returns c =

@@ -18,28 +18,23 @@ enough c = omega (arith, stripped-length c, c.requires.queue-room)
 narrow : (c : After-strip) → length c.strip.new.s < 4294967296
 narrow c = omega (arith, stripped-length c, c.requires.narrow)
 
--- src/lib.rt:90:5
 pub bounds-s-1 : goal.bounds-s-1
 bounds-s-1 c = omega (arith, c.requires.queue-room, length-set c.args.s.now 0 1)
 
--- src/lib.rt:91:5
 pub strip-requires : goal.strip-requires
 strip-requires c =
     let s = c.args.s.now in
     let l = length-set (set s 0 1) 1 c.kind_byte.result ∙ length-set s 0 1 in
     record { record-room = c.requires.record-room; enough = omega (arith, l, c.requires.queue-room) }
 
--- src/lib.rt:92:18
 pub slice_bounds-clear-count : goal.slice_bounds-clear-count
 slice_bounds-clear-count c = omega (arith, enough (goal.at.slice_bounds-clear-count c).After-strip)
 
--- src/lib.rt:92:18
 pub slice_bounds-clear-start : goal.slice_bounds-clear-start
 slice_bounds-clear-start c =
     let h = enough (goal.at.slice_bounds-clear-start c).After-strip in
     search rules
 
--- src/lib.rt:92:5
 pub clear-requires : goal.clear-requires
 clear-requires c =
     let t = c.strip.new.s in
@@ -47,13 +42,11 @@ clear-requires c =
     rw (lent-queue c.args.r t)
     (omega (arith, l, enough (goal.at.clear-requires c).After-strip), omega (arith, l, narrow (goal.at.clear-requires c).After-strip))
 
--- src/lib.rt:85:1
 pub shape_of-s : goal.shape_of-s
 shape_of-s c =
     let h = stripped-length (goal.at.shape_of-s c).After-strip in
     search rules
 
--- src/lib.rt:85:1
 pub returns : goal.returns
 returns c =
     let A = c.args in

@@ -12,7 +12,6 @@ first_back : (c : After-clear) → put_mid 4 4100 c.args.s.now c.clear.new.s
     ≡ sets c.args.s.now 4 c.clear.new.s
 first_back c = back-subscriptions c.args.s.now c.clear.new.s (omega (arith, c.requires)) c.clear.ensures.size
 
--- src/lib.rt:81:5
 pub clear-requires-2 : goal.clear-requires-2
 clear-requires-2 c =
     let A = c.args in
@@ -21,7 +20,6 @@ clear-requires-2 c =
     rw (first_back (goal.at.clear-requires-2 c).After-clear, lent-recording A.r t)
     (sized-recording_part A.r t c.requires.record-room (omega (arith, c.requires.enough)))
 
--- src/lib.rt:76:1
 pub returns : goal.returns
 returns c =
     let A = c.args in

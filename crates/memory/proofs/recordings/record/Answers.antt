@@ -16,7 +16,7 @@ pub returns : goal.returns
 returns c =
     let h = c.slot_extent-s.ensures in
     lent-changes h (recorded (action_of c.args.id c.args.payload.now))
-    (open-used _ c.requires.in-open.has-open) c.before.before.«record».ensures
+    (open-used _ c.requires.in-open.has-open) c.«record».ensures
 
 pub slice_bounds-record-end : goal.slice_bounds-record-end
 slice_bounds-record-end c = lent-within c.slot_extent-s.ensures

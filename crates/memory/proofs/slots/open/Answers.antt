@@ -15,7 +15,7 @@ pub returns : goal.returns
 returns c =
     lent-becomes c.slot_extent-s.ensures
     (λ x. used (new_client (opening_with c.args.kind c.args.hangs)))
-    c.before.before.«open».ensures refl
+    c.«open».ensures refl
 
 pub slice_bounds-open-end : goal.slice_bounds-open-end
 slice_bounds-open-end c = lent-within c.slot_extent-s.ensures

@@ -2,11 +2,9 @@ use Rattle.slot.specs.Region.{client_of}
 use Rattle.slot.proofs.Lent.{addable-part, lent-patterns}
 use Rattle.slot.proofs.client.add_pattern.Goals as goal
 
--- src/client.rt:26:5
 pub add-requires : goal.add-requires
 add-requires c = addable-part c.requires.addable
 
--- src/client.rt:22:1
 pub returns : goal.returns
 unfolding client_of
 returns c = λ R h. lent-patterns h c.add.ensures

@@ -7,16 +7,13 @@ use Rattle.slot.proofs.Operations.{open-client}
 use Rattle.slot.proofs.Resting.{becomes-same, notified-info, notified-same}
 use Rattle.slot.proofs.client.notify_open.Goals as goal
 
--- src/client.rt:44:48
 pub slice_bounds-any_accepts-end-2 : goal.slice_bounds-any_accepts-end-2
 slice_bounds-any_accepts-end-2 c = sym (length-take-le c.args.key c.args.body.now c.requires.1)
 
--- src/client.rt:39:1
 pub returns-then-any_accepts : goal.returns-then-any_accepts
 returns-then-any_accepts c =
     rw (notified-info c.requires.0 (room_of c.args.r c.args.s.now) c.args.body.now c.args.key (sym c.any_accepts.ensures ∙ c.if-any_accepts.true)) c.owe.ensures
 
--- src/client.rt:39:1
 pub returns-else-any_accepts : goal.returns-else-any_accepts
 returns-else-any_accepts c =
     let h = c.requires.0 in

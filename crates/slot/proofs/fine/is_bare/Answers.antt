@@ -7,16 +7,13 @@ use Rattle.slot.specs.Region.{subscriptions_part, client_of, is_bare}
 use Rattle.slot.proofs.Operations.{lent-recording}
 use Rattle.slot.proofs.fine.is_bare.Goals as goal
 
--- src/fine.rt:24:9
 pub returns-then-count-ne0 : goal.returns-then-count-ne0
 unfolding is_bare client_of
 returns-then-count-ne0 c = rw (ne_eqb (length (patterns_of (subscriptions_part c.args.s.now))) 0 (λ e. c.if-count-ne0.true (c.count.ensures ∙ e)))
 
--- src/fine.rt:26:6
 pub is_on-requires : goal.is_on-requires
 is_on-requires c = rw (lent-recording c.args.r c.args.s.now) c.requires.recording
 
--- src/fine.rt:19:1
 pub returns : goal.returns
 unfolding is_bare client_of
 returns c =

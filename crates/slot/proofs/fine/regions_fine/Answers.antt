@@ -14,18 +14,15 @@ queue-fine c =
     c.is_fine-2.ensures ∙ ap (λ (n : ℕ). queue_fine n q) c.reserve.ensures
     ∙ ap (queue_fine (reserve_of (phase_of A.s.now))) (lent-queue A.r A.s.now)
 
--- src/fine.rt:35:9
 pub returns-then-not-is_fine : goal.returns-then-not-is_fine
 unfolding regions_fine
 returns-then-not-is_fine c = rw (sym c.is_fine.ensures ∙ c.if-not-is_fine.true)
 
--- src/fine.rt:38:9
 pub returns-then-not-is_fine-2 : goal.returns-then-not-is_fine-2
 unfolding regions_fine
 returns-then-not-is_fine-2 c =
     rw (sym c.is_fine.ensures ∙ c.if-not-is_fine.false, sym (queue-fine (goal.at.returns-then-not-is_fine-2 c).After-is_fine-2) ∙ c.if-not-is_fine-2.true)
 
--- src/fine.rt:30:1
 pub returns : goal.returns
 unfolding regions_fine
 returns c =

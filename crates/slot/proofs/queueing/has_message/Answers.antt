@@ -5,11 +5,9 @@ use Rattle.slot.proofs.Operations.{lent-queue}
 use Rattle.slot.proofs.Resting.{resting-queue-any}
 use Rattle.slot.proofs.queueing.has_message.Goals as goal
 
--- src/queueing.rt:19:6
 pub is_empty-requires : goal.is_empty-requires
 is_empty-requires c = rw (lent-queue c.args.r c.args.s.now) (resting-queue-any c.requires)
 
--- src/queueing.rt:15:1
 pub returns : goal.returns
 unfolding client_of
 returns c = ap not (rw (lent-queue c.args.r c.args.s.now) at c.is_empty.ensures)

@@ -3,11 +3,9 @@ use Rattle.slot.proofs.Operations.{lent-queue, open-queue}
 use Rattle.slot.proofs.Lent.{lent_owed}
 use Rattle.slot.proofs.queueing.owe.Goals as goal
 
--- src/queueing.rt:45:5
 pub owe-requires : goal.owe-requires
 owe-requires c = rw (lent-queue c.args.r c.args.s.now) (open-queue c.requires.0, c.requires.1)
 
--- src/queueing.rt:39:1
 pub returns : goal.returns
 returns c =
     let A = c.args in

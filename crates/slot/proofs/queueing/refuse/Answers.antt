@@ -20,33 +20,27 @@ enough c = omega (arith, stripped-length c, c.requires.rules.sized)
 same_queue : (c : After-strip) → queue_part c.args.r c.strip.new.s ≡ queue_part c.args.r c.args.s.now
 same_queue c = c.strip.ensures.same_queue ∙ drop-sets c.args.s.now 0 (2 ∷ []) (4116 + c.args.r) (omega arith)
 
--- src/queueing.rt:55:5
 pub strip-requires : goal.strip-requires
 strip-requires c =
     record { record-room = record-room c.requires.rules; enough = omega (arith, length-set c.args.s.now 0 2, c.requires.rules.sized) }
 
--- src/queueing.rt:56:22
 pub slice_bounds-put_error-count : goal.slice_bounds-put_error-count
 slice_bounds-put_error-count c = omega (arith, enough (goal.at.slice_bounds-put_error-count c).After-strip)
 
--- src/queueing.rt:56:22
 pub slice_bounds-put_error-start : goal.slice_bounds-put_error-start
 slice_bounds-put_error-start c =
     let h = enough (goal.at.slice_bounds-put_error-start c).After-strip in
     search rules
 
--- src/queueing.rt:56:5
 pub put_error-requires : goal.put_error-requires
 put_error-requires c =
     rw (lent-queue c.args.r c.strip.new.s, same_queue (goal.at.put_error-requires c).After-strip) (open-queue c.requires)
 
--- src/queueing.rt:49:1
 pub shape_of-s : goal.shape_of-s
 shape_of-s c =
     let h = stripped-length (goal.at.shape_of-s c).After-strip in
     search rules
 
--- src/queueing.rt:49:1
 pub returns : goal.returns
 returns c =
     let A = c.args in

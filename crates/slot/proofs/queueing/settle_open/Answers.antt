@@ -6,18 +6,15 @@ use Rattle.slot.proofs.Lent.{lent-queued}
 use Rattle.slot.proofs.Resting.{settled-refused, settled-queued}
 use Rattle.slot.proofs.queueing.settle_open.Goals as goal
 
--- src/queueing.rt:67:9
 pub returns-then-is_overflown : goal.returns-then-is_overflown
 returns-then-is_overflown c =
     rw (settled-refused c.requires (sym (rw (lent-queue c.args.r c.args.s.now) at c.is_overflown.ensures) ∙ c.if-is_overflown.true)) c.refuse.ensures
 
--- src/queueing.rt:69:5
 pub settle-requires : goal.settle-requires
 settle-requires c =
     rw (lent-queue c.args.r c.args.s.now)
     (in-step-less (omega arith) (open-queue c.requires), sym (rw (lent-queue c.args.r c.args.s.now) at c.is_overflown.ensures) ∙ c.if-is_overflown.false)
 
--- src/queueing.rt:61:1
 pub returns : goal.returns
 returns c =
     let h = c.requires in

@@ -6,12 +6,10 @@ use Rattle.slot.proofs.Lent.{lent-queued}
 use Rattle.slot.proofs.Resting.{resting-queue, resting-queue-any}
 use Rattle.slot.proofs.queueing.take.Goals as goal
 
--- src/queueing.rt:35:5
 pub take-requires : goal.take-requires
 unfolding client_of
 take-requires c = rw (lent-queue c.args.r c.args.s.now) (resting-queue-any c.requires.0, c.requires.1)
 
--- src/queueing.rt:31:1
 pub returns : goal.returns
 unfolding client_of after_take with_queue
 returns c =

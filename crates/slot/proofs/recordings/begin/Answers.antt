@@ -1,10 +1,8 @@
 use Rattle.slot.proofs.Lent.{lent-sized, lent-record}
 use Rattle.slot.proofs.recordings.begin.Goals as goal
 
--- src/recordings.rt:25:5
 pub begin-requires : goal.begin-requires
 begin-requires c = lent-sized c.requires.rules
 
--- src/recordings.rt:21:1
 pub returns : goal.returns
 returns c = lent-record c.requires c.begin.ensures

@@ -2,7 +2,7 @@
 -- before it, and the head follows.
 use mathlib.Core.Path.{◌≡◌, refl, ap, ◌∙◌}
 use mathlib.Core.Option.{some}
-use Prim.Native.Nat.{◌+◌, ◌-◌}
+use Prim.Native.Nat.{ℕ, ◌+◌, ◌-◌}
 use native.Mathlib.Omega.{arith}
 use lib.ListN.{length, take, drop}
 use lib.Seq.{sets}
@@ -11,87 +11,65 @@ use Rattle.octets.specs.Part.{part}
 use Rattle.model.specs.Store.{store_after_write}
 use Rattle.store.specs.Row.{row_bytes}
 use Rattle.store.specs.Region.{used_of, count_of, headed}
-use Rattle.store.specs.Operation.{put_payload}
+use Rattle.store.specs.Operation.{put_payload, WritableAt}
 use Rattle.store.proofs.RowLaws.{length-row_bytes}
 use Rattle.store.proofs.Change.{Ready, ready, rows-payload, Becomes-write}
 use Rattle.store.proofs.writing.write_at.Goals as goal
-use Rattle.store.proofs.writing.write_at.Goals.{After-u32_at-used, Start}
 
--- what the steps need to know, at entry and where the used bytes are read
-at_entry : (c : Start)
-    → Ready c.args.st.now c.args.payload.now c.args.key c.args.at c.args.old
-at_entry c =
-    let a = c.args in
-    ready a.st.now a.payload.now a.key a.at a.old c.requires.writable c.requires.found
-
-record Read (c : After-u32_at-used) : Type 0 where
-  pub used : c.u32_at-used.result ≡ used_of c.args.st.now
-  pub known : Ready c.args.st.now
-      c.args.payload.now
-      c.args.key
-      c.args.at
-      c.args.old
-
--- what the steps need to know, at entry and where the used bytes are read
-at_entry-2 : (c : After-u32_at-used)
-    → Ready c.args.st.now c.args.payload.now c.args.key c.args.at c.args.old
-at_entry-2 c =
-    let a = c.args in
-    ready a.st.now a.payload.now a.key a.at a.old c.requires.writable c.requires.found
-
-read : (c : After-u32_at-used) → Read c
-read c = record { used = c.u32_at-used.ensures.value; known = at_entry-2 c }
+-- what the steps need to know
+known : {st p : Bytes} {n at old : ℕ} → WritableAt st p n at old → Ready st p n at old
+known {st} {p} {n} {at} {old} w = ready st p n at old w.writable w.found
 
 pub u32_at-used-requires : goal.u32_at-used-requires
-u32_at-used-requires c = let r = at_entry (goal.at.u32_at-used-requires c).Start in omega arith
+u32_at-used-requires c = let r = known c.requires in omega arith
 
 pub u32_at-count-requires : goal.u32_at-count-requires
-u32_at-count-requires c = let r = at_entry (goal.at.u32_at-count-requires c).Start in omega arith
+u32_at-count-requires c = let r = known c.requires in omega arith
 
 pub overflow_add-behind : goal.overflow_add-behind
-overflow_add-behind c = let r = read (goal.at.overflow_add-behind c).After-u32_at-used in omega arith
+overflow_add-behind c = let r = known c.requires in omega arith
 
 pub overflow_sub-behind : goal.overflow_sub-behind
-overflow_sub-behind c = let r = read (goal.at.overflow_sub-behind c).After-u32_at-used in omega arith
+overflow_sub-behind c = let r = known c.requires in omega arith
 
 pub overflow_add-at : goal.overflow_add-at
-overflow_add-at c = let r = read (goal.at.overflow_add-at c).After-u32_at-used in omega arith
+overflow_add-at c = let r = known c.requires in omega arith
 
 pub overflow_add-at-2 : goal.overflow_add-at-2
-overflow_add-at-2 c = let r = read (goal.at.overflow_add-at-2 c).After-u32_at-used in omega arith
+overflow_add-at-2 c = let r = known c.requires in omega arith
 
 pub overflow_add-at-3 : goal.overflow_add-at-3
-overflow_add-at-3 c = let r = read (goal.at.overflow_add-at-3 c).After-u32_at-used in omega arith
+overflow_add-at-3 c = let r = known c.requires in omega arith
 
 pub overflow_add-at-4 : goal.overflow_add-at-4
-overflow_add-at-4 c = let r = read (goal.at.overflow_add-at-4 c).After-u32_at-used in omega arith
+overflow_add-at-4 c = let r = known c.requires in omega arith
 
 pub shift-requires : goal.shift-requires
-shift-requires c = let r = read (goal.at.shift-requires c).After-u32_at-used in omega arith
+shift-requires c = let r = known c.requires in omega arith
 
 pub overflow_add-at-5 : goal.overflow_add-at-5
-overflow_add-at-5 c = let r = read (goal.at.overflow_add-at-5 c).After-u32_at-used in omega arith
+overflow_add-at-5 c = let r = known c.requires in omega arith
 
 pub write-requires : goal.write-requires
-write-requires c = let r = read (goal.at.write-requires c).After-u32_at-used in omega arith
+write-requires c = let r = known c.requires in omega arith
 
 pub overflow_add-at-6 : goal.overflow_add-at-6
 overflow_add-at-6 c =
-    let r = read (goal.at.overflow_add-at-6 c).After-u32_at-used in omega arith
+    let r = known c.requires in omega arith
 
 pub overflow_add-at-7 : goal.overflow_add-at-7
 overflow_add-at-7 c =
-    let r = read (goal.at.overflow_add-at-7 c).After-u32_at-used in omega arith
+    let r = known c.requires in omega arith
 
 pub put_head-requires : goal.put_head-requires
 put_head-requires c =
-    let r = read (goal.at.put_head-requires c).After-u32_at-used in omega arith
+    let r = known c.requires in omega arith
 
 pub returns : goal.returns
 unfolding put_payload store_after_write
 returns c =
     let a = c.args in
-    let r = at_entry (goal.at.returns c).Start in
+    let r = known c.requires in
     let st = a.st.now in
     let p = a.payload.now in
     let b = row_bytes a.key p in

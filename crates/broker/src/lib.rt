@@ -2,7 +2,7 @@
 // slot a client with its patterns, its recording and its queue. A call reads all that it needs from
 // the memory, and nothing is kept outside it. The specs of the crate model say what each call gives
 // back and does (Calls), those of refinement what the calls promise for every memory and every
-// argument (Contracts). Set up is in setting, feed's message in feeding and transaction.
+// argument (Promises). Set up is in setting, feed's message in feeding and transaction.
 #![tactic(auto)]
 
 mod feeding;

@@ -1,5 +1,5 @@
 // The lent memory: a header, the store, and N slots. The crate's specs have the layout (Layout),
-// what a memory means (Image), its rules (Rules) and what functions ask and promise (Contracts).
+// what a memory means (Image), its rules (Rules) and what functions ask and promise (Promises).
 // Internal layer: what a function requires is its callers' to show. The sizes of a memory are read
 // from its header where they are needed.
 #![tactic(auto)]

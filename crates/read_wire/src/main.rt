@@ -17,7 +17,6 @@ use framing::kind_of;
 use protocol::Kind;
 use show::put;
 use std::io;
-use std::io::Read;
 
 // Shows the messages of an input one after the other.
 fn show_stream(rt: &impl Print, input: &[u8], buf: &mut [u8]) -> io::Result<()> {
@@ -124,7 +123,7 @@ fn show_lines(rt: &impl Print, text: &[u8]) -> io::Result<()> {
 }
 
 fn main(rt: HostRuntime) -> io::Result<()> {
-    let mut text = Vec::new(rt.alloc());
-    rt.reader().read_to_end(&mut text)?;
-    show_lines(&rt, octets::front(&text, 65536))
+    let mut text = [0u8; 65536];
+    let n = input::read_full(&mut rt.reader(), &mut text)?;
+    show_lines(&rt, &text[..n])
 }

@@ -7,7 +7,6 @@
 ghost use Rattle.std.specs.Prelude.{◌≤◌, ◌<◌, length};
 
 use std::io;
-use std::io::Read;
 
 // Prints the digit of a slot, a space and a message.
 fn print_message(rt: &impl Print, slot: u8, message: &[u8]) -> io::Result<()> {
@@ -84,11 +83,11 @@ fn run(rt: &impl Print, mem: &mut [u8], text: &[u8]) -> io::Result<()> {
 }
 
 fn main(rt: HostRuntime) -> io::Result<()> {
-    let mut text = Vec::new(rt.alloc());
-    rt.reader().read_to_end(&mut text)?;
+    let mut text = [0u8; 65536];
+    let n = input::read_full(&mut rt.reader(), &mut text)?;
     let mut mem = [0u8; 16384];
     broker::set_up(&mut mem, 2, 1024, 1024, 256);
     broker::open(&mut mem, 0, 1);
     broker::open(&mut mem, 1, 1);
-    run(&rt, &mut mem, octets::front(&text, 65536))
+    run(&rt, &mut mem, &text[..n])
 }

@@ -1,7 +1,7 @@
 // A slot of the memory: free, or with a client that is open or shut; its patterns, its recording
 // and its queue are regions of the slot. The crate's specs have the layout and its rules (Region),
 // what a slot means and what operations make of it (Image), and what functions ask and promise
-// (Contracts). Internal layer: `r` is the record room R everywhere, and what a function requires is
+// (Promises). Internal layer: `r` is the record room R everywhere, and what a function requires is
 // its callers' to show.
 #![tactic(auto)]
 

@@ -21,7 +21,6 @@ mod show;
 ghost use Rattle.std.specs.Prelude.{◌≤◌, length};
 
 use std::io;
-use std::io::Read;
 
 // A number of a line, and where the next word begins.
 #[derive(Clone, Copy)]
@@ -190,8 +189,8 @@ fn run(rt: &impl Print, mem: &mut [u8], text: &[u8]) -> io::Result<()> {
 }
 
 fn main(rt: HostRuntime) -> io::Result<()> {
-    let mut text = Vec::new(rt.alloc());
-    rt.reader().read_to_end(&mut text)?;
+    let mut text = [0u8; 65536];
+    let n = input::read_full(&mut rt.reader(), &mut text)?;
     let mut mem = [0u8; 65536];
-    run(&rt, &mut mem, octets::front(&text, 65536))
+    run(&rt, &mut mem, &text[..n])
 }

@@ -87,10 +87,10 @@ module _ (st k : Bytes) (v : Option Bytes) (at old behind from to used' count' :
     (e-behind : behind ≡ used_of st - (at + old)) (e-from : from ≡ 8 + at + old) (e-to : to ≡ 8 + at + length b)
     (e-used : used' ≡ at + length b + behind) (e-count : count' ≡ length (store_after_write k v (store_of st)))
     (room : 8 + used' ≤ length st) (few : count' ≤ 1024) where
-  pub Becomes-write
+  pub becomes-write
       : Becomes st (headed (sets (sets st to (part st from behind)) (8 + at) b) used' count')
       (store_after_write k v (store_of st))
-  Becomes-write =
+  becomes-write =
       let s = parts st k f in
       let es = store_of st in
       let after : store_after_write k v es ≡ lower k es ++ (own k v ++ s.upper) = store_after_write-split s v in

@@ -12,7 +12,7 @@ use Rattle.store.specs.Region.{used_of, count_of, headed}
 use Rattle.store.specs.Operation.{PresentAt}
 use Rattle.store.proofs.Rows.{Rows}
 use Rattle.store.proofs.Split.{own}
-use Rattle.store.proofs.Change.{Gone, gone, Becomes-write}
+use Rattle.store.proofs.Change.{Gone, gone, becomes-write}
 use Rattle.store.proofs.writing.delete_at.Goals as goal
 
 -- what the row's key lets one know of the numbers
@@ -67,6 +67,6 @@ returns c k d =
     let eu : used ≡ used_of st = c.u32_at-used.ensures.value in
     let ec : count ≡ count_of st = c.u32_at-count.ensures.value in
     rw e
-    (Becomes-write st k none at old behind (8 + at + old) (8 + at) (at + behind) (count - 1) []
+    (becomes-write st k none at old behind (8 + at + old) (8 + at) (at + behind) (count - 1) []
     c.requires.fine d refl
     (omega arith) refl (omega arith) (omega arith) (omega (arith, g.count)) (omega arith) (omega arith))

@@ -13,7 +13,7 @@ use Rattle.store.specs.Row.{row_bytes}
 use Rattle.store.specs.Region.{used_of, count_of, headed}
 use Rattle.store.specs.Operation.{put_payload, WritableAt}
 use Rattle.store.proofs.RowLaws.{length-row_bytes}
-use Rattle.store.proofs.Change.{Ready, ready, rows-payload, Becomes-write}
+use Rattle.store.proofs.Change.{Ready, ready, rows-payload, becomes-write}
 use Rattle.store.proofs.writing.write_at.Goals as goal
 
 -- what the steps need to know
@@ -89,6 +89,6 @@ returns c =
     let ec : count ≡ count_of st = c.u32_at-count.ensures.value in
     let er = c.row_count.ensures.0 in
     rw e
-    (Becomes-write st (take a.key p) (some (drop (a.key + 1) p)) a.at a.old behind from to used' count' b
+    (becomes-write st (take a.key p) (some (drop (a.key + 1) p)) a.at a.old behind from to used' count' b
     c.requires.writable.fine c.requires.found (rows-payload p a.key c.requires.writable.payload)
     (omega arith) refl (omega arith) (omega arith) (omega (arith, r.count)) (omega arith) (omega arith))

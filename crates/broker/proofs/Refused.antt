@@ -3,8 +3,6 @@ use mathlib.Core.Path.{◌≡◌, refl, ◌∙◌}
 use mathlib.Core.Bool.{true, false}
 use Prim.Native.Nat.{ℕ}
 use Rattle.octets.specs.Octets.{Bytes}
-use Rattle.protocol.specs.declared.Kind.{Kind}
-use Rattle.protocol.specs.declared.Kind.TheVariants.{Packets, Stream, Framed, Text}
 use Rattle.protocol.specs.declared.Refusal.{Refusal}
 use Rattle.protocol.specs.declared.Refusal.TheVariants.{Room}
 use Rattle.model.specs.State.{after_slip, slot_at, with_kind}
@@ -20,13 +18,6 @@ use Rattle.infod3.specs.Infod3.{infod3}
 use Rattle.refinement.proofs.Ends.{all-resting}
 use Rattle.broker.specs.FeedParts.{Speaking, refusal_decision, shut_decision}
 use Rattle.broker.proofs.Fixed.{speaking-used}
-
--- every refusal shuts a client of form 2
-pub hanging-shuts : (k : Kind) (r : Refusal) → stays_open k true r ≡ false
-hanging-shuts Packets r = refl
-hanging-shuts Stream r = refl
-hanging-shuts Framed r = refl
-hanging-shuts Text r = refl
 
 module _ {m : Bytes} {i : ℕ} (s : Speaking m i) where
   abbrev im : Image

@@ -1,33 +1,29 @@
 -- Lines, frames and packets cut, and what a read answers.
-use mathlib.Core.Path.{◌≡◌, refl, sym, ap, ◌∙◌}
+use mathlib.Core.Path.{◌≡◌, refl}
 use mathlib.Core.List.{[], ◌∷◌}
 use mathlib.Core.Bool.{Bool, true, false, cond, ◌||◌}
-use mathlib.Core.Option.{none}
+use mathlib.Core.Option.{none, some}
 use Prim.Native.Nat.{ℕ, suc, ◌+◌, ◌-◌, ◌≤◌, ◌<◌}
 use native.Mathlib.Nat.{le_refl}
 use native.Mathlib.Numerals.{add-one}
 use native.Mathlib.Omega.{arith}
 use lib.Dec.{eqb, ltb}
 use lib.ListN.{length, take, drop, get_or, drop_of_length-le}
-use lib.Seq.{drop-cons, take_all, length-take-le, sets}
-use borrow.Author.Tests.{eq-eqb, ne_eqb, lt-ltb, le-ltb, ltb-true, le-leb, lt-leb}
+use lib.Seq.{drop-cons, length-take-le, sets}
+use borrow.Author.Tests.{eq-eqb, ne_eqb, lt-ltb, le-ltb, ltb-true, le-leb}
 use Rattle.octets.specs.Octets.{Bytes}
 use Rattle.protocol.specs.declared.Kind.{Kind}
 use Rattle.protocol.specs.declared.Kind.TheVariants.{Packets, Stream, Framed, Text}
-use Rattle.protocol.specs.declared.Refusal.{Refusal}
 use Rattle.protocol.specs.declared.Refusal.TheVariants.{Unknown}
 use Rattle.framing.specs.Framing.{kind_of, ends_line, line_end, length_of}
 use Rattle.framing.specs.Framing as Framing
 use Rattle.framing.proofs.Laws.{length_of-le}
 use Rattle.message.specs.declared.Shape.TheVariants.{Numbered}
 use Rattle.server_text.specs.Fields.{suits}
-use Rattle.server_text.specs.Lines.{Decoded, refused, message, server_rows, row_with, decoded_line}
-use Rattle.server_text.specs.Promises.{answer_of, Held}
-use Rattle.server_text.specs.declared.Translated.TheVariants.{Message, Refused}
+use Rattle.server_text.specs.Lines.{refused, message, server_rows, row_with, decoded_line}
 use Rattle.wire.specs.Received.{is_whole}
 use Rattle.client.specs.Reading.{first_lf, lf_length, length_in, first_message, of_binary, decoded_binary, message_in}
-use Rattle.client.specs.Reading.{read_of, read_decoded, read_in}
-use Rattle.client.specs.Promises.{Measured}
+use Rattle.client.specs.Reading.{kind_of_form, read_of, read_decoded, read_in, read_message}
 
 -- ---- LF by place
 
@@ -125,21 +121,22 @@ module _ (k : Kind) (s o : Bytes) where
       rw f
 
 module _ (n id : ℕ) (p o : Bytes) where
-  pub decoded-long : 65535 < length p → read_decoded n (message id p) o ≡ read_of 102 n 0 o
-  decoded-long h = rw (lt-leb _ _ h)
-
-  pub decoded-short : length p ≤ 65535 → length o ≤ length p → read_decoded n (message id p) o ≡ read_of 5 0 0 o
-  decoded-short h k = rw (le-leb _ _ h, lt-leb (length p + 1) (length o) (omega arith))
-
   pub decoded-done : length p ≤ 65535 → length p < length o
       → read_decoded n (message id p) o ≡ read_of 0 n (length p + 1) (sets o 0 (id ∷ p))
   decoded-done h k = rw (le-leb _ _ h, le-leb (length p + 1) (length o) (omega arith))
 
--- ---- packets and frames
+-- the reader by form
+pub read-form : (f : ℕ) (k : Kind) (s o : Bytes) → kind_of_form f ≡ some k → read_message f s o ≡ read_in k s o
+unfolding read_message
+read-form f k s o e = rw e
 
-pub row-none : (i : ℕ) → (i ≡ 128 → ⊥) → (i ≡ 129 → ⊥) → (i ≡ 130 → ⊥) → (i ≡ 131 → ⊥) → row_with i server_rows ≡ none
-unfolding row_with
-row-none i a b c d = rw (ne_eqb i 128 a, ne_eqb i 129 b, ne_eqb i 130 c, ne_eqb i 131 d)
+pub read-no-form : (f : ℕ) (s o : Bytes) → kind_of_form f ≡ none → read_message f s o ≡ read_of 8 0 0 o
+unfolding read_message
+read-no-form f s o e = rw e
+
+pub ruleset by_form = (read-form, read-no-form)
+
+-- ---- packets and frames
 
 pub number-missing : (p : Bytes) → length p ≡ 0 → suits Numbered p ≡ false
 unfolding suits
@@ -151,59 +148,34 @@ unfolding suits
 number-there [] h = absurd (h refl)
 number-there (n ∷ p) h = refl
 
+pub ruleset numbers = (number-missing, number-there)
+
 pub binary-nil : (skip : ℕ) (m : Bytes) → length m ≡ 0 → decoded_binary skip m ≡ refused Unknown
 unfolding decoded_binary
 binary-nil skip [] h = refl
 binary-nil skip (c ∷ m) h = absurd (omega arith)
 
-pub binary-cons : (skip : ℕ) (m : Bytes) → (length m ≡ 0 → ⊥) → (p : Bytes)
-    → p ≡ drop skip (take (length m - 1) (drop 1 m))
-    → of_binary (row_with (get_or m 0 0) server_rows) p ≡ decoded_binary skip m
+pub binary-cons : (skip id : ℕ) (rest : Bytes)
+    → decoded_binary skip (id ∷ rest) ≡ of_binary (row_with id server_rows) (drop skip rest)
 unfolding decoded_binary
-binary-cons skip [] h p e = absurd (h refl)
-binary-cons skip (id ∷ m) h p e =
-    let k : p ≡ drop skip m = e ∙ ap (drop skip) (take_all (suc (length m) - 1) m (omega arith)) in
-    rw k
+binary-cons skip id rest = refl
 
 -- ---- lines
-
-pub text-nil : (m : Bytes) → length m ≡ 0 → message_in Text m ≡ decoded_line m
-unfolding message_in
-text-nil [] h = refl
-text-nil (c ∷ m) h = absurd (omega arith)
 
 pub text-line : (m : Bytes) (n : ℕ) → n ≡ length m - 1 → message_in Text m ≡ decoded_line (take n m)
 unfolding message_in
 text-line m n e = rw e
 
--- a line that was measured
-pub measured : (l : Decoded) (id n : ℕ) → Message id n ≡ answer_of l → Measured l n
-measured (refused r) id n e = let z : ◌≡◌ {A = ℕ} 0 1 = cc in absurd (omega arith)
-measured (message i p) id n e = record { id = i; value = p; is = refl; count = cc }
+-- ---- what the searches may use
 
-pub line_refused : (l : Decoded) (r : Refusal) → Refused r ≡ answer_of l → l ≡ refused r
-line_refused (refused q) r e = cc
-line_refused (message i p) r e = let z : ◌≡◌ {A = ℕ} 0 1 = cc in absurd (omega arith)
+pub ruleset first_messages = (first_message-packets, first_message-framed, first_message-stream)
 
--- ---- results part by part
+pub ruleset line_feeds = (first_lf-here, first_lf-on, first_lf-none, first_lf-line_end, line_end-le)
 
-pub result_eq : {a b m n v w : ℕ} (o : Bytes) → a ≡ b → m ≡ n → v ≡ w → read_of a m v o ≡ read_of b n w o
-result_eq o e f g = cc
+pub ruleset lf_lengths = (lf_length-found, lf_length-none)
 
-pub result-out : {o q : Bytes} (a n w : ℕ) → o ≡ q → read_of a n w o ≡ read_of a n w q
-result-out a n w e = cc
+pub ruleset binaries = (binary-nil, binary-cons)
 
-pub as-decoded : (n : ℕ) {l q : Decoded} (o : Bytes) → l ≡ q → read_decoded n l o ≡ read_decoded n q o
-as-decoded n {l} {q} o e = ap (λ (x : Decoded). read_decoded n x o) e
+pub ruleset whole_or_not = (read_whole, read_more)
 
--- a line that was measured and fits is written
-pub put-done : (n : ℕ) {l : Decoded} {len : ℕ} (o q : Bytes) → Measured l len → len ≤ 65535 → len < length o
-    → Held l o q
-    → read_of 0 n (len + 1) q ≡ read_decoded n l o
-put-done n {l} {len} o q m h k t =
-    let f : length m.value ≤ 65535 = omega (arith, m.count) in
-    let g : length m.value < length o = omega (arith, m.count) in
-    let e : len + 1 ≡ length m.value + 1 = omega (arith, m.count) in
-    let r = decoded-done n m.id m.value o f g in
-    let w : q ≡ sets o 0 (m.id ∷ m.value) = rw m.is at t in
-    result_eq q refl refl e ∙ result-out 0 n (length m.value + 1) w ∙ sym (as-decoded n o m.is ∙ r)
+pub ruleset text = (text-line)

@@ -1,140 +1,95 @@
 // Commands written.
-ghost use Rattle.std.specs.Prelude.{◌≡◌, ◌<◌};
+ghost use Rattle.std.specs.Prelude.{◌≡◌};
 ghost use Rattle.client.specs.Writing.{outcome_of, by_verdict, write_in, write_command};
-ghost use Rattle.client.specs.Promises.{too_long, verdict_of};
+ghost use Rattle.client.specs.Promises.{too_long, refusal_in, Judged};
 ghost use Rattle.command.specs.Refusals.{verdict};
 ghost use Rattle.message.specs.Forms.{encoded};
 ghost use Rattle.message.specs.Writing.{outcome};
-ghost use Rattle.protocol.specs.Terms.{number as number_of};
+ghost use Rattle.protocol.specs.Ids.{id_of};
+ghost use Rattle.protocol.specs.Outcome.{answer_of, count_of};
 
-use command::Command;
-use message::Written;
-use protocol::{Kind, Refusal};
-
-// What a write gives back: its answer, and the bytes written to the out slice.
-#[derive(Clone, Copy)]
-pub struct Reply {
-    pub answer: u32,
-    pub count: usize,
-}
-
-// Whether a command is refused, and why.
-#[derive(Clone, Copy)]
-pub enum Verdict {
-    Good,
-    Refused(Refusal),
-}
-
-// A command that is refused.
-fn refused(r: Refusal) -> Reply
-    ensures { (result.answer ≡ number_of r) × (result.count ≡ 0) }
-{
-    Reply {
-        answer: protocol::number(r),
-        count: 0,
-    }
-}
+use message::Unwritten;
+use protocol::{CommandId, Failure, Kind, Refusal};
 
 // Writes a command that is not refused.
-fn put_command(kind: Kind, id: u8, payload: &[u8], out: &mut [u8]) -> Reply
-    requires { id < 8 }
-    ensures { outcome_of result.answer result.count out.new
+fn put_command(kind: Kind, id: CommandId, payload: &[u8], out: &mut [u8]) -> Result<usize, Failure>
+    ensures { outcome_of (answer_of result) (count_of result) out.new
         ≡ outcome payload.now
-        (encoded kind id payload.now) out.old }
+        (encoded kind (id_of id) payload.now) out.old }
 {
-    let w = message::write_command(kind, id, payload, out);
-    match w {
-        Written::Done(n) => Reply {
-            answer: 0,
-            count: n,
-        },
-        Written::Short => Reply {
-            answer: 5,
-            count: 0,
-        },
-        Written::TooLong => refused(Refusal::Room),
+    match message::write_command(kind, id, payload, out) {
+        Ok(n) => Ok(n),
+        Err(Unwritten::Short) => Err(Failure::Short),
+        Err(Unwritten::TooLong) => Err(Failure::Refused(Refusal::Room, 0)),
     }
 }
 
 // Why a command is refused of which only the payload's length can be wrong.
-fn length_refusal(payload: &[u8]) -> Verdict
-    ensures { result ≡ verdict_of (too_long payload.now) }
+fn length_refusal(payload: &[u8]) -> Result<(), Refusal>
+    ensures { refusal_in result ≡ too_long payload.now }
 {
-    if 65535 < payload.len() {
-        return Verdict::Refused(Refusal::Room);
+    if payload.len() > 65535 {
+        return Err(Refusal::Room);
     }
-    Verdict::Good
+    Ok(())
 }
 
-// Why the command of an ID and a payload is refused, as the server's reader of commands finds it.
-fn read_refusal(id: u8, payload: &[u8]) -> Verdict
-    ensures { result ≡ verdict_of (verdict id payload.now) }
+// Why a command is refused, as the server's reader of commands finds it.
+#[tactic(auto, using(crate::proofs::WriteLaws::readings))]
+fn read_refusal(id: CommandId, payload: &[u8]) -> Result<(), Refusal>
+    ensures { refusal_in result ≡ verdict (id_of id) payload.now }
 {
-    let c = command::read(id, payload);
-    match c {
-        Command::Hello => Verdict::Good,
-        Command::Sub => Verdict::Good,
-        Command::Unsub => Verdict::Good,
-        Command::Read => Verdict::Good,
-        Command::Write { key: _, written: _ } => Verdict::Good,
-        Command::Begin => Verdict::Good,
-        Command::Commit => Verdict::Good,
-        Command::Ping => Verdict::Good,
-        Command::Refused(r) => Verdict::Refused(r),
-    }
+    command::read_known(id, payload)?;
+    Ok(())
 }
 
-// Why the command of an ID and a payload is refused. The payload of a WRITE or a PING is not gone
-// through: only its length can be wrong.
-fn refusal(id: u8, payload: &[u8]) -> Verdict
-    ensures { result ≡ verdict_of (verdict id payload.now) }
+// Which command an ID and a payload are, or why it is refused. The payload of a WRITE or a PING is
+// not gone through: only its length can be wrong.
+#[tactic(auto, using(crate::proofs::WriteLaws::verdicts))]
+fn refusal(id: u8, payload: &[u8]) -> Result<CommandId, Refusal>
+    ensures { Judged id payload.now result }
 {
+    let id = CommandId::try_from(id)?;
     match id {
-        4 => length_refusal(payload),
-        7 => length_refusal(payload),
-        _ => read_refusal(id, payload),
+        CommandId::Write | CommandId::Ping => length_refusal(payload)?,
+        _ => read_refusal(id, payload)?,
     }
+    Ok(id)
 }
 
 // The command of an ID and a payload.
-fn write_judged(kind: Kind, id: u8, payload: &[u8], out: &mut [u8]) -> Reply
-    ensures { outcome_of result.answer result.count out.new
+fn write_judged(kind: Kind, id: u8, payload: &[u8], out: &mut [u8]) -> Result<usize, Failure>
+    ensures { outcome_of (answer_of result) (count_of result) out.new
         ≡ by_verdict (verdict id payload.now)
         kind id payload.now out.old }
 {
-    let v = refusal(id, payload);
-    match v {
-        Verdict::Good => put_command(kind, id, payload, out),
-        Verdict::Refused(r) => refused(r),
+    match refusal(id, payload) {
+        Ok(id) => put_command(kind, id, payload, out),
+        Err(refusal) => Err(Failure::Refused(refusal, 0)),
     }
 }
 
 // A command in a kind.
-fn write_in(kind: Kind, command: &[u8], out: &mut [u8]) -> Reply
-    ensures { outcome_of result.answer result.count out.new
+#[tactic(auto, using(crate::proofs::WriteLaws::commands))]
+fn write_in(kind: Kind, command: &[u8], out: &mut [u8]) -> Result<usize, Failure>
+    ensures { outcome_of (answer_of result) (count_of result) out.new
         ≡ write_in kind command.now out.old }
 {
-    if command.len() == 0 {
-        return refused(Refusal::Unknown);
-    }
-    write_judged(kind, command[0], &command[1..], out)
+    let Some((id, payload)) = command.split_first() else {
+        return Err(Failure::Refused(Refusal::Unknown, 0));
+    };
+    write_judged(kind, *id, payload, out)
 }
 
 // Writes a command, given as ID and payload, at the start of out, leaves the rest of out as it was,
-// and gives the length written. Refusals, in this order: 8 for a form above 2; 100 for an unknown
-// or missing ID; 101 for any other bad form, pattern syntax included; 102 for a payload over 65,535
-// bytes or a pattern over 255; 5 where out is too short. Each writes nothing.
-pub fn write_command(form: usize, command: &[u8], out: &mut [u8]) -> Reply
-    ensures { outcome_of result.answer result.count out.new
+// and gives the length written. Failures, in this order: Range for a form above 2; a refusal, which
+// is Unknown for an unknown or missing ID, Parameter for any other bad form, pattern syntax
+// included, and Room for a payload over 65,535 bytes or a pattern over 255; Short where out is too
+// short. Each writes nothing.
+#[tactic(auto, using(crate::proofs::WriteLaws::by_form))]
+pub fn write_command(form: usize, command: &[u8], out: &mut [u8]) -> Result<usize, Failure>
+    ensures { outcome_of (answer_of result) (count_of result) out.new
         ≡ write_command form command.now out.old }
 {
-    match form {
-        0 => write_in(Kind::Packets, command, out),
-        1 => write_in(Kind::Framed, command, out),
-        2 => write_in(Kind::Text, command, out),
-        _ => Reply {
-            answer: 8,
-            count: 0,
-        },
-    }
+    write_in(crate::kind_of(form)?, command, out)
 }

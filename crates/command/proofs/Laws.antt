@@ -1,4 +1,4 @@
--- Empty payloads by length, where the first NUL is, and what the parts of a WRITE's payload say.
+-- Empty payloads by length, unknown IDs, where the first NUL is, and what the parts of a WRITE's payload say.
 use mathlib.Core.Path.{◌≡◌, refl, sym, subst}
 use mathlib.Core.List.{[], ◌∷◌}
 use mathlib.Core.Bool.{Bool, true, false, cond}
@@ -6,34 +6,35 @@ use Prim.Native.Nat.{ℕ, suc, ◌+◌, ◌-◌, ◌≤◌}
 use native.Mathlib.Omega.{arith}
 use lib.Dec.{eqb, ltb}
 use lib.ListN.{length}
-use borrow.Author.Tests.{ltb-true, ltb-false}
+use Rattle.std.specs.Prelude.{Ok, Err}
+use borrow.Author.Tests.{ne_eqb, ltb-true, ltb-false}
 use Rattle.octets.specs.Octets.{Bytes, first_nul}
-use Rattle.protocol.specs.declared.Refusal.TheVariants.{Parameter}
+use Rattle.protocol.specs.declared.Refusal.TheVariants.{Unknown, Parameter}
 use Rattle.command.specs.declared.Written.{Written}
 use Rattle.command.specs.declared.Written.TheVariants.{Delete, Value}
 use Rattle.command.specs.declared.Command.{Command}
-use Rattle.command.specs.declared.Command.TheVariants.{Hello, Refused}
-use Rattle.command.specs.Commands.{fitting, hello_of, empty_of, written_of, Splits}
+use Rattle.command.specs.declared.Command.TheVariants.{Hello}
+use Rattle.command.specs.Commands.{fitting, hello_of, empty_of, command_of, written_of, Splits}
 
-pub empty_of-nil : (p : Bytes) (c : Command) → length p ≡ 0 → c ≡ empty_of p c
+pub empty_of_nil : (p : Bytes) (c : Command) → length p ≡ 0 → Ok c ≡ empty_of p c
 unfolding empty_of
-empty_of-nil [] c h = refl
-empty_of-nil (b ∷ p) c h = absurd (omega arith)
+empty_of_nil [] c h = refl
+empty_of_nil (b ∷ p) c h = absurd (omega arith)
 
-pub empty_of-cons : (p : Bytes) (c : Command) → (length p ≡ 0 → ⊥) → Refused Parameter ≡ empty_of p c
+pub empty_of_cons : (p : Bytes) (c : Command) → (length p ≡ 0 → ⊥) → Err Parameter ≡ empty_of p c
 unfolding empty_of
-empty_of-cons [] c h = absurd (h refl)
-empty_of-cons (b ∷ p) c h = refl
+empty_of_cons [] c h = absurd (h refl)
+empty_of_cons (b ∷ p) c h = refl
 
-pub hello_of-nil : (p : Bytes) → length p ≡ 0 → Refused Parameter ≡ hello_of p
+pub hello_of_nil : (p : Bytes) → length p ≡ 0 → Err Parameter ≡ hello_of p
 unfolding hello_of
-hello_of-nil [] h = refl
-hello_of-nil (b ∷ p) h = absurd (omega arith)
+hello_of_nil [] h = refl
+hello_of_nil (b ∷ p) h = absurd (omega arith)
 
-pub hello_of-cons : (p : Bytes) → (length p ≡ 0 → ⊥) → fitting p Hello ≡ hello_of p
+pub hello_of_cons : (p : Bytes) → (length p ≡ 0 → ⊥) → fitting p Hello ≡ hello_of p
 unfolding hello_of
-hello_of-cons [] h = absurd (h refl)
-hello_of-cons (b ∷ p) h = refl
+hello_of_cons [] h = absurd (h refl)
+hello_of_cons (b ∷ p) h = refl
 
 pub first_nul-le : (p : Bytes) → first_nul p ≤ length p
 unfolding first_nul
@@ -43,6 +44,21 @@ first_nul-le (c ∷ p) = by (eqb c 0) (first_nul-le p)
     by : (b : Bool) → first_nul p ≤ length p → cond b 0 (first_nul p + 1) ≤ suc (length p)
     by true h = omega arith
     by false h = omega arith
+
+-- an ID of 8 or more is unknown
+pub command_of_unknown : (id : ℕ) (p : Bytes) → 8 ≤ id → command_of id p ≡ Err Unknown
+unfolding command_of
+command_of_unknown id p h =
+    simp (
+      ne_eqb id 0 (λ e. omega arith),
+      ne_eqb id 1 (λ e. omega arith),
+      ne_eqb id 2 (λ e. omega arith),
+      ne_eqb id 3 (λ e. omega arith),
+      ne_eqb id 4 (λ e. omega arith),
+      ne_eqb id 5 (λ e. omega arith),
+      ne_eqb id 6 (λ e. omega arith),
+      ne_eqb id 7 (λ e. omega arith),
+    )
 
 -- ---- the parts of a WRITE's payload
 

@@ -7,21 +7,23 @@ use Prim.Native.Nat.{ℕ, zero, suc, ◌+◌, ◌-◌, ◌≤◌, ◌<◌}
 use native.Mathlib.Numerals.{add-one}
 use native.Mathlib.Omega.{arith}
 use lib.Dec.{eqb, leb, ltb}
+use Rattle.std.specs.Prelude.{Result, Ok, Err}
 use lib.ListN.{length, take, drop, get_or, length-drop}
 use lib.Seq.{take_all, split_at}
-use borrow.Author.Tests.{ne_eqb, eqb-true, leb-true, ltb-true, ltb-false}
+use borrow.Author.Tests.{eqb-true, leb-true, ltb-true, ltb-false}
 use Rattle.octets.specs.Octets.{Bytes, has_nul, first_nul}
 use Rattle.pattern.specs.Syntax.{valid}
+use Rattle.protocol.specs.declared.Refusal.{Refusal}
 use Rattle.protocol.specs.declared.Refusal.TheVariants.{Parameter, Room}
 use Rattle.protocol.specs.Terms.{payload, value_tail}
 use Rattle.command.specs.declared.Written.{Written}
 use Rattle.command.specs.declared.Written.TheVariants.{Delete, Value}
 use Rattle.command.specs.declared.Command.{Command}
 use Rattle.command.specs.declared.Command.TheVariants.{Hello, Sub, Unsub, Read, Write, Begin, Commit, Ping}
-use Rattle.command.specs.declared.Command.TheVariants.{Refused}
 use Rattle.command.specs.Commands.{fitting, hello_of, pattern_of, read_of, written_of, write_of, empty_of, command_of}
 use Rattle.command.specs.Commands.{Splits}
 use Rattle.command.specs.Meaning.{meant, reading_of}
+use Rattle.command.proofs.Laws.{command_of_unknown}
 use Rattle.command.specs.Sound.{GoodPattern, SoundReading}
 
 -- ---- the first NUL
@@ -58,23 +60,23 @@ write-delete p h = rw (append-nil (take (first_nul p) p)) (take_all (first_nul p
 
 -- ---- commands
 
-fitting-sound : (id : ℕ) (p : Bytes) (c : Command) → (length p ≤ 65535 → SoundReading id p (meant p c))
+fitting-sound : (id : ℕ) (p : Bytes) (c : Command) → (length p ≤ 65535 → SoundReading id p (meant p (Ok c)))
     → SoundReading id p (meant p (fitting p c))
 unfolding fitting meant
 fitting-sound id p c h = by (leb (length p) 65535) refl
   where
-    by : (b : Bool) → leb (length p) 65535 ≡ b → SoundReading id p (meant p (cond b c (Refused Room)))
+    by : (b : Bool) → leb (length p) 65535 ≡ b → SoundReading id p (meant p (cond b (Ok c) (Err Room)))
     by true e = h (leb-true (length p) 65535 e)
     by false e = tt
 
-pattern-sound : (id : ℕ) (p : Bytes) (c : Command) → (GoodPattern p → SoundReading id p (meant p c))
+pattern-sound : (id : ℕ) (p : Bytes) (c : Command) → (GoodPattern p → SoundReading id p (meant p (Ok c)))
     → SoundReading id p (meant p (pattern_of p c))
 unfolding pattern_of meant
 pattern-sound id p c h = by (has_nul p) (valid p) (leb (length p) 255) refl refl refl
   where
     by : (a b t : Bool) → has_nul p ≡ a → valid p ≡ b → leb (length p) 255 ≡ t
         → SoundReading id p
-        (meant p (cond a (Refused Parameter) (cond b (cond t c (Refused Room)) (Refused Parameter))))
+        (meant p (cond a (Err Parameter) (cond b (cond t (Ok c) (Err Room)) (Err Parameter))))
     by true b t e f g = tt
     by false false t e f g = tt
     by false true false e f g = tt
@@ -84,7 +86,7 @@ read-sound : (p : Bytes) → SoundReading 3 p (meant p (read_of p))
 unfolding read_of meant payload
 read-sound p = by (has_nul p) refl
   where
-    by : (b : Bool) → has_nul p ≡ b → SoundReading 3 p (meant p (cond b (Refused Parameter) (fitting p Read)))
+    by : (b : Bool) → has_nul p ≡ b → SoundReading 3 p (meant p (cond b (Err Parameter) (fitting p Read)))
     by true e = tt
     by false e = fitting-sound 3 p Read (λ h. record { identity = refl; content = refl; fits = h; fine = e })
 
@@ -95,25 +97,15 @@ write-sound p = fitting-sound 4 p (Write (first_nul p) (written_of (first_nul p)
   where
     by : (b : Bool) → ltb (first_nul p) (length p) ≡ b → length p ≤ 65535
         → SoundReading 4 p
-        (meant p (Write (first_nul p) (cond b (Value (first_nul p + 1) (length p - (first_nul p + 1))) Delete)))
+        (meant p (Ok (Write (first_nul p) (cond b (Value (first_nul p + 1) (length p - (first_nul p + 1))) Delete))))
     by true e h =
         record { identity = refl; content = write-value p (ltb-true _ _ e); fits = h; fine = has_nul-front p }
     by false e h =
         record { identity = refl; content = write-delete p (ltb-false _ _ e); fits = h; fine = has_nul-front p }
 
 unknown-sound : (id : ℕ) (p : Bytes) → 8 ≤ id → SoundReading id p (reading_of id p)
-unfolding command_of meant
-unknown-sound id p h =
-    simp (
-      ne_eqb id 0 (λ e. omega arith),
-      ne_eqb id 1 (λ e. omega arith),
-      ne_eqb id 2 (λ e. omega arith),
-      ne_eqb id 3 (λ e. omega arith),
-      ne_eqb id 4 (λ e. omega arith),
-      ne_eqb id 5 (λ e. omega arith),
-      ne_eqb id 6 (λ e. omega arith),
-      ne_eqb id 7 (λ e. omega arith),
-    ) tt
+unfolding meant
+unknown-sound id p h = rw (command_of_unknown id p h) tt
 
 pub reading-sound : (id : ℕ) (p : Bytes) → SoundReading id p (reading_of id p)
 unfolding command_of hello_of empty_of meant payload
@@ -139,36 +131,36 @@ reading-sound (suc (suc (suc (suc (suc (suc (suc (suc id)))))))) p =
 -- ---- the parts of a WRITE
 
 -- a WRITE has the parts of its payload; nothing is asked of any other command
-abbrev Parted : Bytes → Command → Type 0
-Parted p Hello = Unit {0}
-Parted p Sub = Unit {0}
-Parted p Unsub = Unit {0}
-Parted p Read = Unit {0}
-Parted p (Write n w) = Splits p n w
-Parted p Begin = Unit {0}
-Parted p Commit = Unit {0}
-Parted p Ping = Unit {0}
-Parted p (Refused r) = Unit {0}
+abbrev Parted : Bytes → Result Command Refusal → Type 0
+Parted p (Ok Hello) = Unit {0}
+Parted p (Ok Sub) = Unit {0}
+Parted p (Ok Unsub) = Unit {0}
+Parted p (Ok Read) = Unit {0}
+Parted p (Ok (Write n w)) = Splits p n w
+Parted p (Ok Begin) = Unit {0}
+Parted p (Ok Commit) = Unit {0}
+Parted p (Ok Ping) = Unit {0}
+Parted p (Err r) = Unit {0}
 
 module _ (p : Bytes) where
   -- a command is as it was, or refused
-  parted-cond : (b : Bool) (c d : Command) → Parted p c → Parted p d → Parted p (cond b c d)
+  parted-cond : (b : Bool) (c d : Result Command Refusal) → Parted p c → Parted p d → Parted p (cond b c d)
   parted-cond true c d h k = h
   parted-cond false c d h k = k
 
-  parted-fitting : (c : Command) → Parted p c → Parted p (fitting p c)
+  parted-fitting : (c : Command) → Parted p (Ok c) → Parted p (fitting p c)
   unfolding fitting
-  parted-fitting c h = parted-cond (leb (length p) 65535) c (Refused Room) h tt
+  parted-fitting c h = parted-cond (leb (length p) 65535) (Ok c) (Err Room) h tt
 
-  parted-pattern : (c : Command) → Parted p c → Parted p (pattern_of p c)
+  parted-pattern : (c : Command) → Parted p (Ok c) → Parted p (pattern_of p c)
   unfolding pattern_of
   parted-pattern c h =
-      parted-cond (has_nul p) (Refused Parameter) _ tt
-      (parted-cond (valid p) _ (Refused Parameter) (parted-cond (leb (length p) 255) c (Refused Room) h tt) tt)
+      parted-cond (has_nul p) (Err Parameter) _ tt
+      (parted-cond (valid p) _ (Err Parameter) (parted-cond (leb (length p) 255) (Ok c) (Err Room) h tt) tt)
 
   parted-read : Parted p (read_of p)
   unfolding read_of
-  parted-read = parted-cond (has_nul p) (Refused Parameter) _ tt (parted-fitting Read tt)
+  parted-read = parted-cond (has_nul p) (Err Parameter) _ tt (parted-fitting Read tt)
 
   parted-write : Parted p (write_of p)
   unfolding write_of
@@ -180,7 +172,7 @@ unfolding hello_of
 parted-hello [] = tt
 parted-hello (v ∷ t) = parted-fitting (v ∷ t) Hello tt
 
-parted-empty : (p : Bytes) (c : Command) → Parted p c → Parted p (empty_of p c)
+parted-empty : (p : Bytes) (c : Command) → Parted p (Ok c) → Parted p (empty_of p c)
 unfolding empty_of
 parted-empty [] c h = h
 parted-empty (b ∷ p) c h = tt
@@ -197,5 +189,5 @@ parted id p =
     (parted-cond p (eqb id 6) _ _ (parted-empty p Commit tt)
     (parted-cond p (eqb id 7) _ _ (parted-fitting p Ping tt) tt)))))))
 
-pub write-splits : (id : ℕ) (p : Bytes) (n : ℕ) (w : Written) → command_of id p ≡ Write n w → Splits p n w
+pub write-splits : (id : ℕ) (p : Bytes) (n : ℕ) (w : Written) → command_of id p ≡ Ok (Write n w) → Splits p n w
 write-splits id p n w e = subst (Parted p) e (parted id p)

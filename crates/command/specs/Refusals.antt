@@ -1,14 +1,13 @@
 -- Why a command is refused, one test for each sentence of document 01 ("From bytes to one command", Payloads and
 -- Order), and the order of the tests: 100, then 101, then 102.
 use Rattle.std.specs.Prelude.{[], ◌∷◌, Bool, true, false, cond, not, ◌&&◌, ◌||◌, ℕ, eqb, leb, ltb, length}
+use Rattle.std.specs.Prelude.{Result, Ok, Err}
 use Rattle.std.proofs.Math.Option.{Option, none, some}
 use Rattle.octets.specs.Octets.{Bytes, has_nul}
 use Rattle.pattern.specs.Syntax.{valid}
 use Rattle.protocol.specs.declared.Refusal.{Refusal}
 use Rattle.protocol.specs.declared.Refusal.TheVariants.{Unknown, Parameter, Room}
 use Rattle.command.specs.declared.Command.{Command}
-use Rattle.command.specs.declared.Command.TheVariants.{Hello, Sub, Unsub, Read, Write, Begin, Commit, Ping}
-use Rattle.command.specs.declared.Command.TheVariants.{Refused}
 
 -- whether there is no payload
 abbrev pub is_empty : Bytes → Bool
@@ -41,13 +40,6 @@ verdict id p =
     cond (is_unknown id) (some Unknown) (cond (is_bad id p) (some Parameter) (cond (is_long id p) (some Room) none))
 
 -- why a command is refused, where it is
-abbrev pub refusal_of : Command → Option Refusal
-refusal_of Hello = none
-refusal_of Sub = none
-refusal_of Unsub = none
-refusal_of Read = none
-refusal_of (Write k w) = none
-refusal_of Begin = none
-refusal_of Commit = none
-refusal_of Ping = none
-refusal_of (Refused r) = some r
+abbrev pub refusal_of : Result Command Refusal → Option Refusal
+refusal_of (Ok c) = none
+refusal_of (Err r) = some r

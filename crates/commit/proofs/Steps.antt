@@ -5,21 +5,25 @@ use mathlib.Core.Bool.{Bool, true, false, not}
 use Prim.Native.Nat.{ℕ, suc, ◌+◌, ◌≤◌, ◌<◌}
 use native.Mathlib.Numerals.{add-one}
 use native.Mathlib.Omega.{arith}
-use lib.Dec.{ltb, eqb}
+use lib.Dec.{ltb}
 use lib.ListN.{length, take, drop, get_or}
 use lib.Seq.{take-suc, drop-cons, drop-length}
-use borrow.Author.Tests.{lt-ltb, le-ltb, ltb-false, leb-true, le-leb, ne_eqb}
+use borrow.Author.Tests.{lt-ltb, le-ltb, ltb-false, leb-true, le-leb}
 use Rattle.octets.specs.Octets.{Bytes}
 use Rattle.octets.specs.Part.{part}
 use Rattle.octets.specs.Number.{number_at}
 use Rattle.octets.proofs.Parts.{length_part}
+use Rattle.std.proofs.Common.{◌≢◌, None, Some}
+use Rattle.protocol.specs.declared.command_id.CommandId.{CommandId}
+use Rattle.protocol.specs.declared.command_id.CommandId.TheVariants.{Hello, Sub, Unsub, Read, Write, Begin, Commit, Ping}
+use Rattle.protocol.specs.Ids.{id_of}
 use Rattle.protocol.specs.Terms.{Action, hello, sub, unsub, read, ping, action_id, payload}
 use Rattle.model.specs.Store.{Store, lookup, store_charge, store_fits}
 use Rattle.model.specs.Patterns.{Patterns, held, add_pattern, remove_pattern}
 use Rattle.model.specs.Step.{store_after, patterns_after, refuses, store_after_all, refuses_any}
 use Rattle.model.specs.Turn.{value_at_turn}
 use Rattle.model.specs.Invariant.{Ascending}
-use Rattle.model.proofs.Tests.{either, never}
+use Rattle.model.proofs.Tests.{either}
 use Rattle.model.proofs.Steps.{store_after_all-append, ascending-store_after_all, lookup-store_after_all}
 use Rattle.model.proofs.Subscriptions.{count_of, length-add_pattern}
 use Rattle.recording.specs.Encoding.{action_of, write_from, action_fine, row_size, row_payload, action_at}
@@ -79,53 +83,40 @@ sub-room q p b h e = ltb-false 16 (length (add_pattern p (patterns_of q))) (sym 
 -- such an action is not refused, and the region holds the patterns after it
 pub taken-kept : (S : ℕ) (a : Action) (s : Store) (q q' : Bytes) (t : Tally) → TallyOf S s t
     → refuses S a s (patterns_of q) ≡ false → store_after a s ≡ s
-    → patterns_of q' ≡ patterns_after true a (patterns_of q) → subscriptions_fine q' ≡ true → Taken S a s q q' t
+    → patterns_of q' ≡ patterns_after true a (patterns_of q) → subscriptions_fine q' ≡ true
+    → Taken S a s q q' (Some t)
 taken-kept S a s q q' t h r u p f =
-    record { refused = h.passed ∙ sym r; tally = λ e. rw u h; patterns = λ e. p; patterns-fine = f }
+    record { outcome = record { accepted = r; tally = rw u h; patterns = p }; patterns-fine = f }
 
-pub sub-stopped : (id : ℕ) (p q : Bytes) (t : Tally) (b : Bool) → subscriptions_fine q ≡ true → id ≡ 1
-    → SubRefused q p b → b ≡ true
-    → PatternTaken id p t q q (record { refused = true; used = t.used; count = t.count })
+pub sub-stopped : (p q : Bytes) (t : Tally) (b : Bool) → subscriptions_fine q ≡ true → SubRefused q p b → b ≡ true
+    → PatternTaken 1 p t q q None
 unfolding action_of
-sub-stopped id p q t b f i h e =
-    record {
-      value = λ S s g.
-          rw i (record {
-            refused = sym e ∙ h.value S s;
-            tally = λ z. never z;
-            patterns = λ z. never z;
-            patterns-fine = f;
-          });
-    }
+sub-stopped p q t b f h e =
+    record { value = λ S s g. record { outcome = sym (h.value S s) ∙ e; patterns-fine = f } }
 
-module _ (id : ℕ) (p q q' : Bytes) (t : Tally) where
-  pub sub-taken : (b : Bool) → id ≡ 1 → SubRefused q p b → b ≡ false
-      → SubBecomes (add_pattern p (patterns_of q)) q q' → PatternTaken id p t q q' t
+module _ (p q q' : Bytes) (t : Tally) where
+  pub sub-taken : (b : Bool) → SubRefused q p b → b ≡ false → SubBecomes (add_pattern p (patterns_of q)) q q'
+      → PatternTaken 1 p t q q' (Some t)
   unfolding action_of store_after patterns_after
-  sub-taken b i h e m =
-      record {
-        value = λ S s g.
-            rw i (taken-kept S (sub p) s q q' t g (sym (h.value S s) ∙ e) refl m.holds m.fine);
-      }
+  sub-taken b h e m =
+      record { value = λ S s g. taken-kept S (sub p) s q q' t g (sym (h.value S s) ∙ e) refl m.holds m.fine }
 
-  pub unsub-taken : id ≡ 2 → SubBecomes (remove_pattern p (patterns_of q)) q q' → PatternTaken id p t q q' t
+  pub unsub-taken : SubBecomes (remove_pattern p (patterns_of q)) q q' → PatternTaken 2 p t q q' (Some t)
   unfolding action_of store_after patterns_after refuses
-  unsub-taken i m = record { value = λ S s g. rw i (taken-kept S (unsub p) s q q' t g refl refl m.holds m.fine) }
+  unsub-taken m = record { value = λ S s g. taken-kept S (unsub p) s q q' t g refl refl m.holds m.fine }
 
 -- HELLO, READ and PING change nothing
-pub other-taken : (id : ℕ) (p q : Bytes) (t : Tally) → subscriptions_fine q ≡ true
-    → (id ≡ 1 → ⊥) → (id ≡ 2 → ⊥) → (id ≡ 4 → ⊥) → PatternTaken id p t q q t
+pub other-taken : (id : CommandId) (p q : Bytes) (t : Tally) → subscriptions_fine q ≡ true
+    → id ≢ Sub → id ≢ Unsub → id ≢ Write → PatternTaken (id_of id) p t q q (Some t)
 unfolding action_of store_after patterns_after refuses
-other-taken id p q t f n₁ n₂ n₄ =
-    record {
-      value = λ S s g.
-          rw (ne_eqb id 1 n₁, ne_eqb id 2 n₂, ne_eqb id 4 n₄)
-          (either (eqb id 0)
-          (λ e. rw e (taken-kept S (hello p) s q q t g refl refl refl f))
-          (λ e₀. either (eqb id 3)
-          (λ e. rw (e₀, e) (taken-kept S (read p) s q q t g refl refl refl f))
-          (λ e. rw (e₀, e) (taken-kept S (ping p) s q q t g refl refl refl f))));
-    }
+other-taken Hello p q t f n₁ n₂ n₄ = record { value = λ S s g. taken-kept S (hello p) s q q t g refl refl refl f }
+other-taken Sub p q t f n₁ n₂ n₄ = absurd (n₁ refl)
+other-taken Unsub p q t f n₁ n₂ n₄ = absurd (n₂ refl)
+other-taken Read p q t f n₁ n₂ n₄ = record { value = λ S s g. taken-kept S (read p) s q q t g refl refl refl f }
+other-taken Write p q t f n₁ n₂ n₄ = absurd (n₄ refl)
+other-taken Begin p q t f n₁ n₂ n₄ = record { value = λ S s g. taken-kept S (ping p) s q q t g refl refl refl f }
+other-taken Commit p q t f n₁ n₂ n₄ = record { value = λ S s g. taken-kept S (ping p) s q q t g refl refl refl f }
+other-taken Ping p q t f n₁ n₂ n₄ = record { value = λ S s g. taken-kept S (ping p) s q q t g refl refl refl f }
 
 -- ---- an action's row
 
@@ -151,17 +142,18 @@ module _ (r : Bytes) (at : ℕ) (h : RowAt r at) (id : ℕ) (p : Bytes) where
       let j : id ≡ get_or row 0 0 = i ∙ action_id-action_of (get_or row 0 0) (part row 4 n) n w.known in
       rw (l, j) w.known
 
-  pub row_write : id ≡ 4 → id ≡ action_id (action_at row) → p ≡ payload (action_at row) → action_at row ≡ write_from p
-  unfolding action_of
-  row_write e i b = row-action i b ∙ ap (λ (n : ℕ). action_of n p) e
+-- an action of this ID is a WRITE
+pub write-action : (p : Bytes) → action_of 4 p ≡ write_from p
+unfolding action_of
+write-action p = refl
 
-pub write-short : (id n : ℕ) → id ≡ 4 → action_fine id n ≡ true → n ≤ 65535
+pub write-short : (n : ℕ) → action_fine 4 n ≡ true → n ≤ 65535
 unfolding action_fine
-write-short id n e h = leb-true n 65535 (rw e at h)
+write-short n h = leb-true n 65535 h
 
-pub sub-short : (id n : ℕ) → id ≡ 1 → action_fine id n ≡ true → n ≤ 255
+pub sub-short : (n : ℕ) → action_fine 1 n ≡ true → n ≤ 255
 unfolding action_fine
-sub-short id n e h = leb-true n 255 (rw e at h)
+sub-short n h = leb-true n 255 h
 
 pub turn-place : {st : Bytes} {index : List ℕ} {r : Bytes} {at : ℕ} {q : Bytes} {t : Tally}
     → Turn st index r at q t → Place st index r at
@@ -187,7 +179,7 @@ body-store_before st r k at b e = e ∙ ap (body k) (sym (lookup-store_after_all
 
 -- the store's own numbers are its tally
 pub tally-start : (st : Bytes) (used count : ℕ) → store_fine st ≡ true → used ≡ store_used st → count ≡ store_count st
-    → TallyOf (room_of st) (store_of st) (record { refused = false; used = used; count = count })
+    → TallyOf (room_of st) (store_of st) (record { used = used; count = count })
 unfolding store_fits
 tally-start st used count f u n =
     let m = represents st f in
@@ -195,7 +187,6 @@ tally-start st used count f u n =
     let l = length-store_of st f in
     let a : store_charge (store_of st) ≤ room_of st = omega (arith, m.long) in
     record {
-      passed = refl;
       used = u ∙ sym c;
       count = n ∙ sym l;
       fits = rw (le-leb (store_charge (store_of st)) (room_of st) a, le-leb (length (store_of st)) 1024 m.few);
@@ -252,23 +243,22 @@ module _ (st : Bytes) {index : List ℕ} (r q₀ : Bytes) (t : Tally) (at i : �
       ∙ rw (← walk-earlier r at i h.walk, walk-action r at i h.walk (ping []) l) in
       rw e (store_after_all-append (earlier r at) (action ∷ []) (store_of st))
 
-  module _ (t' : Tally) (q' : Bytes) (g : Taken (room_of st) action (store_before st r at) q q' t') where
-    pub try-stopped : t'.refused ≡ true → true ≡ refuses_any (room_of st) (recorded r) (store_of st) (patterns_of q₀)
-    unfolding refuses_any
-    try-stopped e =
-        let z : refuses (room_of st) action (store_before st r at) (patterns_of q) ≡ true = sym g.refused ∙ e in
-        sym (h.rest ∙ rw (others, z))
+  pub try-stopped : (q' : Bytes) → Taken (room_of st) action (store_before st r at) q q' None
+      → true ≡ refuses_any (room_of st) (recorded r) (store_of st) (patterns_of q₀)
+  unfolding refuses_any
+  try-stopped q' g = sym (h.rest ∙ rw (others, g.outcome))
 
-    pub try-next : t'.refused ≡ false → Trying st r q₀ t' (at + row_size (drop at (rows_of r))) (i + 1) q'
-    unfolding refuses_any
-    try-next e =
-        let z : refuses (room_of st) action (store_before st r at) (patterns_of q) ≡ false = sym g.refused ∙ e in
-        record {
-          walk = walk-next r at i h.walk l;
-          tally = rw store-next (g.tally e);
-          patterns-fine = g.patterns-fine;
-          rest = rw (store-next, add-one i, g.patterns e) (h.rest ∙ rw (others, z));
-        }
+  pub try-next : (t' : Tally) (q' : Bytes) → Taken (room_of st) action (store_before st r at) q q' (Some t')
+      → Trying st r q₀ t' (at + row_size (drop at (rows_of r))) (i + 1) q'
+  unfolding refuses_any
+  try-next t' q' g =
+      let k = g.outcome in
+      record {
+        walk = walk-next r at i h.walk l;
+        tally = rw store-next k.tally;
+        patterns-fine = g.patterns-fine;
+        rest = rw (store-next, add-one i, k.patterns) (h.rest ∙ rw (others, k.accepted));
+      }
 
 pub try-end : (st r q₀ : Bytes) (t : Tally) (at i : ℕ) (q : Bytes) → length (recorded r) ≤ i → Trying st r q₀ t at i q
     → false ≡ refuses_any (room_of st) (recorded r) (store_of st) (patterns_of q₀)

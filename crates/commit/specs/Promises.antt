@@ -1,8 +1,11 @@
 -- What the functions of this crate ask and ensure, in the terms of the simple server: whether an action is refused
 -- with 102 at its turn (`refuses`), and whether any action of a commit is (`refuses_any`). Document 01, COMMIT: "If any
 -- WRITE or SUB would be refused at its turn, none is done and the answer is 102."
-use Rattle.std.specs.Prelude.{ℕ, ◌≤◌, ◌≡◌, List, Bool, true, false, length, take}
+use Rattle.std.specs.Prelude.{ℕ, ◌≤◌, ◌≡◌, ◌≢◌, List, Bool, true, false, length, take, Option, MatchOption}
 use Rattle.octets.specs.Octets.{Bytes}
+use Rattle.protocol.specs.declared.command_id.CommandId.{CommandId}
+use Rattle.protocol.specs.declared.command_id.CommandId.TheVariants.{Write}
+use Rattle.protocol.specs.Ids.{id_of}
 use Rattle.protocol.specs.Terms.{Action, sub}
 use Rattle.command.specs.declared.Written.{Written}
 use Rattle.command.specs.Commands.{Splits}
@@ -47,10 +50,10 @@ pub record WriteTurn (st : Bytes) (index : List ℕ) (r : Bytes) (at : ℕ) (p :
   pub tally : TallyOf (room_of st) (store_before st r at) t
 
 -- a client's subscriptions, and an action that is no WRITE
-pub record PatternTurn (q : Bytes) (id : ℕ) (p : Bytes) : Type 0 where
+pub record PatternTurn (q : Bytes) (id : CommandId) (p : Bytes) : Type 0 where
   pub patterns-fine : subscriptions_fine q ≡ true
-  pub known : action_fine id (length p) ≡ true
-  pub other : id ≡ 4 → ⊥
+  pub known : action_fine (id_of id) (length p) ≡ true
+  pub other : id ≢ Write
 
 -- an action's row at an offset of a recording, with an index of the store, the tally of the store there and a client's
 -- subscriptions
@@ -63,20 +66,23 @@ pub record Turn (st : Bytes) (index : List ℕ) (r : Bytes) (at : ℕ) (q : Byte
 
 -- ---- what is ensured
 
--- The action a is tried out on the store s and the subscriptions q: t says whether it is refused; where it is not,
--- t is the tally of the store after it, and q' holds the patterns after it.
-pub record Taken (S : ℕ) (a : Action) (s : Store) (q q' : Bytes) (t : Tally) : Type 0 where
-  pub refused : t.refused ≡ refuses S a s (patterns_of q)
-  pub tally : t.refused ≡ false → TallyOf S (store_after a s) t
-  pub patterns : t.refused ≡ false → patterns_of q' ≡ patterns_after true a (patterns_of q)
+-- the action a is not refused: t is the tally of the store after it, and q' holds the patterns after it
+pub record Accepted (S : ℕ) (a : Action) (s : Store) (q q' : Bytes) (t : Tally) : Type 0 where
+  pub accepted : refuses S a s (patterns_of q) ≡ false
+  pub tally : TallyOf S (store_after a s) t
+  pub patterns : patterns_of q' ≡ patterns_after true a (patterns_of q)
+
+-- The action a is tried out on the store s and the subscriptions q: there is no tally where it is refused.
+pub record Taken (S : ℕ) (a : Action) (s : Store) (q q' : Bytes) (r : Option Tally) : Type 0 where
+  pub outcome : MatchOption r (refuses S a s (patterns_of q) ≡ true) (Accepted S a s q q')
   pub patterns-fine : subscriptions_fine q' ≡ true
 
 -- a WRITE of the payload is tried out, whatever the subscriptions are
-pub record WriteTaken (S : ℕ) (p : Bytes) (s : Store) (t : Tally) : Type 0 where
-  pub value : (q : Bytes) → subscriptions_fine q ≡ true → Taken S (write_from p) s q q t
+pub record WriteTaken (S : ℕ) (p : Bytes) (s : Store) (r : Option Tally) : Type 0 where
+  pub value : (q : Bytes) → subscriptions_fine q ≡ true → Taken S (write_from p) s q q r
 
 -- an action that is no WRITE is tried out, whatever the store is
-pub record PatternTaken (id : ℕ) (p : Bytes) (t : Tally) (q q' : Bytes) (r : Tally) : Type 0 where
+pub record PatternTaken (id : ℕ) (p : Bytes) (t : Tally) (q q' : Bytes) (r : Option Tally) : Type 0 where
   pub value : (S : ℕ) (s : Store) → TallyOf S s t → Taken S (action_of id p) s q q' r
 
 -- the payload of a WRITE, by its parts and by the size of its key's row in the store, 0 where the key is absent

@@ -2,7 +2,7 @@
 -- WRITE changes both (document 01, "The simple server": an entry charges 8 plus the lengths of key and value; the sum
 -- may not pass S, nor the entries 1,024). The row of an entry is as long as the entry charges; a size of 0 stands for
 -- no row.
-use Rattle.std.specs.Prelude.{ℕ, zero, suc, ◌+◌, ◌-◌, ◌≤◌, ◌≡◌, true, false, not, ◌&&◌, leb, length}
+use Rattle.std.specs.Prelude.{ℕ, zero, suc, ◌+◌, ◌-◌, ◌≤◌, ◌<◌, ◌≡◌, true, cond, ◌&&◌, leb, length, Option, None, Some}
 use Rattle.command.specs.declared.Written.{Written}
 use Rattle.command.specs.declared.Written.TheVariants.{Delete, Value}
 use Rattle.model.specs.Store.{Store, store_charge, store_fits}
@@ -19,35 +19,28 @@ abbrev pub body_size : ℕ → ℕ
 body_size zero = 0
 body_size (suc n) = 8 + n
 
--- no action was refused so far, and the numbers are those of the store s, which keeps its limits
+-- the numbers of the store s, which keeps its limits
 pub record TallyOf (S : ℕ) (s : Store) (t : Tally) : Type 0 where
-  pub passed : t.refused ≡ false
   pub used : t.used ≡ store_charge s
   pub count : t.count ≡ length s
   pub fits : store_fits S s ≡ true
 
 -- the tally without a row of n bytes
 unfoldable pub less : Tally → ℕ → Tally
-less t n = record { refused = false; used = t.used - n; count = t.count - row_count n }
+less t n = record { used = t.used - n; count = t.count - row_count n }
 
--- r is the tally t with a row of n bytes, refused where a limit would be broken
-pub record More (S : ℕ) (t : Tally) (n : ℕ) (r : Tally) : Type 0 where
-  pub refused : r.refused ≡ not (leb (t.used + n) S && leb (t.count + row_count n) 1024)
-  pub used : r.refused ≡ false → r.used ≡ t.used + n
-  pub count : r.refused ≡ false → r.count ≡ t.count + row_count n
+-- the tally with a row of n bytes; none where a limit would be broken
+unfoldable pub more : ℕ → Tally → ℕ → Option Tally
+more S t n =
+    cond (leb (t.used + n) S && leb (t.count + row_count n) 1024)
+    (Some (record { used = t.used + n; count = t.count + row_count n }))
+    None
 
--- a row that the tally counts
-pub record Removable (t : Tally) (n : ℕ) : Type 0 where
-  pub charge : n ≤ t.used
-  pub count : row_count n ≤ t.count
-
--- a tally within the limits
-pub record Within (S : ℕ) (t : Tally) : Type 0 where
-  pub passed : t.refused ≡ false
+-- a tally within the limits that counts a row of `old` bytes, and a row of an entry
+pub record Exchangeable (S : ℕ) (t : Tally) (old new : ℕ) : Type 0 where
   pub used : t.used ≤ S
   pub count : t.count ≤ 1024
-
--- such a tally, and a row of n bytes that can be exchanged
-pub record Exchangeable (S : ℕ) (t : Tally) (n : ℕ) : Type 0 where
-  pub within : Within S t
-  pub removable : Removable t n
+  pub old-charge : old ≤ t.used
+  pub old-count : row_count old ≤ t.count
+  pub room-small : S < 9223372036854775808
+  pub new-short : new ≤ 65542

@@ -4,6 +4,5 @@ pub mod Fresh
 pub mod Lent
 pub mod Returned
 pub mod Stored
-pub mod Regions
 pub mod Fine
 pub mod Limits

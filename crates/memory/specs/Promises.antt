@@ -15,14 +15,38 @@ use Rattle.recording.specs.Encoding.{action_of, action_fine}
 use Rattle.model.specs.Queue.{after_take}
 use Rattle.model.specs.Events.{on_client}
 use Rattle.slot.specs.Image.{ClientImage, error_fits, owed, notified}
-use Rattle.memory.specs.Layout.{mark, sizes_of, store_part, stride, slots_start, slot_start, memory_size}
+use Rattle.memory.specs.Layout.{mark, sizes_of, store_part, slot_part, stride, slots_start, slot_start, memory_size}
 use Rattle.memory.specs.Image.{is_used, is_open, client_at, with_store, on_slot, image_of}
 use Rattle.memory.specs.Rules.{Headed, Sound, memory_fine, KeptBehind, Becomes}
 
--- a memory with a header, and the number of a slot or N
-pub record UpToSlot (m : Bytes) (i : ℕ) : Type 0 where
+-- a memory with a header, and the number of a slot
+pub record HasSlot (m : Bytes) (i : ℕ) : Type 0 where
   pub headed : Headed m
-  pub most : i ≤ (sizes_of m).slot_count
+  pub inside : i < (sizes_of m).slot_count
+
+-- the bounds of slot i by the sizes, and the record room, as code has them
+pub record Lies (z : Sizes) (i a b r : ℕ) : Type 0 where
+  pub start : a ≡ slot_start z i
+  pub end : b ≡ slot_start z i + stride z
+  pub room : r ≡ z.record_room
+
+-- a memory with a header and these sizes, and the number of a slot
+pub record Numbered (m : Bytes) (z : Sizes) (i : ℕ) : Type 0 where
+  pub slot : HasSlot m i
+  pub sizes : z ≡ sizes_of m
+
+-- the bounds of slot i, which lies within the memory, and the record room, as code has them
+pub record Placed (m : Bytes) (i a b r : ℕ) : Type 0 where
+  pub start : a ≡ slot_start (sizes_of m) i
+  pub end : b ≡ slot_start (sizes_of m) i + stride (sizes_of m)
+  pub room : r ≡ (sizes_of m).record_room
+  pub order : a ≤ b
+  pub within : b ≤ length m
+
+-- the bytes of slot i, and the record room, as code has them
+pub record Reading (m : Bytes) (i : ℕ) (s : Bytes) (r : ℕ) : Type 0 where
+  pub bytes : s ≡ slot_part (sizes_of m) i m
+  pub room : r ≡ (sizes_of m).record_room
 
 -- ---- set up
 
@@ -96,22 +120,6 @@ pub record Slippable (m : Bytes) (i : ℕ) (r : Refusal) : Type 0 where
 abbrev pub Changes : ℕ → (ClientImage → ClientImage) → Bytes → Bytes → Type 0
 Changes i f m m' = Becomes m m' (on_slot i (on_client f) (image_of m))
 
--- the bounds of slot i and the record room, as code has them
-pub record Lent (m : Bytes) (i a b r : ℕ) : Type 0 where
-  pub in-slot : InSlot m i
-  pub start : a ≡ slot_start (sizes_of m) i
-  pub end : b ≡ slot_start (sizes_of m) i + stride (sizes_of m)
-  pub room : r ≡ (sizes_of m).record_room
-
--- the same of some slot
-pub record Bounds (m : Bytes) (a b r : ℕ) : Type 0 where
-  pub index : ℕ
-  pub lent : Lent m index a b r
-
--- the client of the slot that begins at a is left as f makes it
-abbrev pub ChangesAt : ℕ → (ClientImage → ClientImage) → Bytes → Bytes → Type 0
-ChangesAt a f m m' = (i : ℕ) → i < (sizes_of m).slot_count → a ≡ slot_start (sizes_of m) i → Changes i f m m'
-
 -- a message can be taken: out has room for the first one
 pub record Takable (m : Bytes) (i : ℕ) (out : Bytes) : Type 0 where
   pub in-resting : InResting m i
@@ -133,14 +141,14 @@ abbrev pub Owing : ℕ → Message → Bytes → Bytes → Type 0
 Owing i x m m' = Changes i (owed (image_of m).sizes.queue_room x) m m'
 
 -- a key was written, the first `key` bytes of the body, and a slot is told of it
-pub record Notifiable (m : Bytes) (a b r : ℕ) (body : Bytes) (key : ℕ) : Type 0 where
-  pub bounds : Bounds m a b r
+pub record Notifiable (m : Bytes) (i : ℕ) (body : Bytes) (key : ℕ) : Type 0 where
+  pub in-slot : InSlot m i
   pub key-within : key ≤ length body
   pub short : length body ≤ 65535
 
--- the client of the slot that begins at a is told of a key that was written
+-- the client of slot i is told of a key that was written
 abbrev pub Notifying : ℕ → Bytes → ℕ → Bytes → Bytes → Type 0
-Notifying a body key m m' = ChangesAt a (notified (image_of m).sizes.queue_room body key) m m'
+Notifying i body key m m' = Changes i (notified (image_of m).sizes.queue_room body key) m m'
 
 -- the action with this ID and payload can be recorded of an open client
 pub record Recordable (m : Bytes) (i id : ℕ) (p : Bytes) : Type 0 where

@@ -2,25 +2,27 @@
 use mathlib.Core.Path.{◌≡◌, refl, sym, ap, ◌∙◌}
 use mathlib.Core.List.{[], ◌∷◌, ◌++◌, append-nil}
 use mathlib.Core.Bool.{Bool, true, false, cond, ◌||◌}
+use Rattle.std.specs.Prelude.{Option, Some, None, Ok, Err}
+use Rattle.std.specs.Option.{unwrap_or}
 use Prim.Native.Nat.compare
 use Prim.Native.Nat.{ℕ, suc, ◌+◌, ◌-◌, ◌*◌, ◌≤◌, ◌<◌}
 use native.Mathlib.Numerals.{add-one}
 use native.Mathlib.Omega.{arith}
-use lib.Dec.{eqb, ltb}
-use lib.ListN.{length, get_or, drop, take, length-append, length-drop}
+use lib.Dec.{eqb, ltb, leb}
+use lib.ListN.{length, drop, take, length-append, length-drop}
 use lib.Seq.{take_all, sets, length-take-le}
-use borrow.Author.Tests.{eqb-true, lt-ltb, le-ltb, ltb-true, ltb-false, le-leb, lt-leb}
+use borrow.Author.Tests.{eqb-true, lt-ltb, le-ltb, ltb-true, ltb-false, leb-true, leb-false, le-leb, lt-leb}
 use Rattle.octets.specs.Octets.{Bytes, has_nul, first_nul}
 use Rattle.message.specs.declared.Shape.{Shape}
 use Rattle.message.specs.declared.Shape.TheVariants.{Numbered, Quoted, Keyed, Bare}
-use Rattle.message.specs.declared.Written.TheVariants.{Done, Short, TooLong}
+use Rattle.message.specs.declared.Unwritten.TheVariants.{Short, TooLong}
 use Rattle.protocol.specs.Terms.{value_tail, message_payload}
 use Rattle.message.specs.declared.Message.TheVariants.{Info}
-use Rattle.message.specs.Quoting.{quote}
+use Rattle.message.specs.Quoting.{quote, decimal}
 use Rattle.message.specs.Rows.{row}
 use Rattle.message.specs.Forms.{field, key_of, value_of, value_field, number_fields, fields, ending, line}
-use Rattle.message.specs.Writing.{said, length_with, outcome, answered}
-use Rattle.message.proofs.Laws.{length-field-most, length-decimal}
+use Rattle.message.specs.Writing.{said, length_with, length_within, outcome, answered}
+use Rattle.message.proofs.Laws.{length-field-most, length-decimal, escaped-append, escaped-most}
 
 -- ---- fields
 
@@ -44,11 +46,6 @@ module _ (p : Bytes) (n : ℕ) (e : n ≡ first_nul p) where
   unfolding fields value_of value_field
   fields-absent h = rw (has_nul-first_nul, ← e, le-ltb _ _ h, take_all n p h) (ap (◌∷◌ 32) (append-nil (quote p)))
 
-pub fields-numbered : (p : Bytes) → 0 < length p → fields Numbered p ≡ number_fields (get_or p 0 0 ∷ drop 1 p)
-unfolding fields
-fields-numbered [] h = absurd (omega arith)
-fields-numbered (c ∷ p) h = refl
-
 pub empty : (p : Bytes) → length p ≡ 0 → p ≡ []
 empty [] e = refl
 empty (c ∷ p) e = absurd (omega arith)
@@ -56,6 +53,15 @@ empty (c ∷ p) e = absurd (omega arith)
 -- a part to the end
 pub take_rest : (l : Bytes) (k : ℕ) → take (length l - k) (drop k l) ≡ drop k l
 take_rest l k = take_all (length l - k) (drop k l) (simp length-drop (omega arith))
+
+pub fields-numbered : (n : ℕ) (p : Bytes) → fields Numbered (n ∷ p) ≡ (32 ∷ decimal n) ++ field p
+unfolding fields number_fields
+fields-numbered n p = refl
+
+pub fields-unnumbered : (p : Bytes) → length p ≡ 0 → fields Numbered p ≡ []
+unfolding fields number_fields
+fields-unnumbered [] h = refl
+fields-unnumbered (n ∷ p) h = absurd (omega arith)
 
 -- ---- lengths
 
@@ -102,20 +108,51 @@ module _ (p e : Bytes) where
   unfolding length_with
   length_with-fits h = rw (le-leb _ _ h)
 
-  pub length_with-long : 65535 < length p → length_with p e ≡ 0
-  unfolding length_with
-  length_with-long h = rw (lt-leb _ _ h)
+  pub length_within-fits : length p ≤ 65535 → length_within p e ≡ Some (length e)
+  unfolding length_within
+  length_within-fits h = rw (le-leb _ _ h)
+
+  pub length_within-long : 65535 < length p → length_within p e ≡ None
+  unfolding length_within
+  length_within-long h = rw (lt-leb _ _ h)
+
+  pub length_within-some : (n : ℕ) → Some n ≡ length_within p e → (length p ≤ 65535) × (n ≡ length e)
+  unfolding length_within
+  length_within-some n = by (leb (length p) 65535) refl
+    where
+      by : (b : Bool) → leb (length p) 65535 ≡ b → Some n ≡ cond b (Some (length e)) None
+          → (length p ≤ 65535) × (n ≡ length e)
+      by true f h = (leb-true _ _ f, cc)
+      by false f h = absurd (cc)
+
+  pub length_within-none : ◌≡◌ {A = Option ℕ} None (length_within p e) → 65535 < length p
+  unfolding length_within
+  length_within-none = by (leb (length p) 65535) refl
+    where
+      by : (b : Bool) → leb (length p) 65535 ≡ b → ◌≡◌ {A = Option ℕ} None (cond b (Some (length e)) None)
+          → 65535 < length p
+      by true f h = absurd (cc)
+      by false f h = leb-false _ _ f
+
+  -- a length of 0 in place of none
+  pub length_with-within : unwrap_or (length_within p e) 0 ≡ length_with p e
+  unfolding length_with length_within
+  length_with-within = by (leb (length p) 65535)
+    where
+      by : (b : Bool) → unwrap_or (cond b (Some (length e)) None) 0 ≡ cond b (length e) 0
+      by true = refl
+      by false = refl
 
 module _ (p e o : Bytes) where
-  pub outcome-long : 65535 < length p → outcome p e o ≡ answered TooLong o
+  pub outcome-long : 65535 < length p → outcome p e o ≡ answered (Err TooLong) o
   unfolding outcome
   outcome-long h = rw (lt-leb _ _ h)
 
-  pub outcome-short : length p ≤ 65535 → length o < length e → outcome p e o ≡ answered Short o
+  pub outcome-short : length p ≤ 65535 → length o < length e → outcome p e o ≡ answered (Err Short) o
   unfolding outcome
   outcome-short h k = rw (le-leb _ _ h, lt-leb _ _ k)
 
-  pub outcome-done : length p ≤ 65535 → length e ≤ length o → outcome p e o ≡ answered (Done (length e)) (sets o 0 e)
+  pub outcome-done : length p ≤ 65535 → length e ≤ length o → outcome p e o ≡ answered (Ok (length e)) (sets o 0 e)
   unfolding outcome
   outcome-done h k = rw (le-leb _ _ h, le-leb _ _ k)
 
@@ -149,21 +186,14 @@ pub payload-info : (b : Bytes) → message_payload (said Info b) ≡ b
 unfolding message_payload said
 payload-info b = key-value b
 
--- ---- the last ID of a match
+pub ruleset line_lengths = (length_fields, length-ending, length-line)
 
-above : (n i : ℕ) → n ≤ i → (i ≡ n → ⊥) → suc n ≤ i
-above n i h k = omega arith
+pub ruleset within = (length_within-fits, length_within-long)
 
-between : (n i : ℕ) → n ≤ i → i < suc n → i ≡ n
-between n i h k = omega arith
+pub ruleset outcomes = (length_within-some, length_within-none, outcome-long, outcome-short, outcome-done)
 
--- an ID below 8 that is none of the first seven
-pub seventh : (i : ℕ) → i < 8 → (i ≡ 0 → ⊥) → (i ≡ 1 → ⊥) → (i ≡ 2 → ⊥) → (i ≡ 3 → ⊥) → (i ≡ 4 → ⊥) → (i ≡ 5 → ⊥)
-    → (i ≡ 6 → ⊥) → i ≡ 7
-seventh i h a b c d e f g =
-    between 7 i
-    (above 6 i (above 5 i (above 4 i (above 3 i (above 2 i (above 1 i (above 0 i zero-le a) b) c) d) e) f) g)
-    h
-  where
-    zero-le : 0 ≤ i
-    zero-le = omega arith
+pub ruleset blocks = (empty, escaped-append, escaped-most, length-append)
+
+pub ruleset shapes = (fields-numbered, fields-unnumbered)
+
+pub ruleset parts = (take_rest, fields-valued, fields-absent, length-drop, length-take-le)

@@ -1,18 +1,19 @@
 // The server's messages as bytes, for clients of each kind: how long a message is, and the message
-// written to a lent slice; and the commands, written in the same forms. A message is an ID, the word
-// of its text line, the shape of its fields and a payload in binary form.
+// written to a lent slice; and the commands, written in the same forms. A message is a row, which
+// is its ID, the word of its text line and the shape of its fields, and a payload in binary form.
 #![tactic(auto)]
 
 ghost use Rattle.std.specs.Prelude.{◌≡◌, ◌≤◌, ◌<◌, length};
 ghost use Rattle.std.proofs.lemmas.List.Edits.{sets};
-ghost use Rattle.protocol.specs.Terms;
-ghost use Rattle.message.specs.Rows.{row};
+ghost use Rattle.protocol.specs.Terms.{error, message_id, message_payload};
+ghost use Rattle.protocol.specs.Ids.{id_of};
+ghost use Rattle.message.specs.Rows.{row_of, row_in_code};
 ghost use Rattle.message.specs.Forms.{packet, frame, form, encoded};
-ghost use Rattle.message.specs.Post.{HasRoom};
-ghost use Rattle.message.specs.Writing.{said, length_with, written_length};
+ghost use Rattle.message.specs.Post.{HasRoom, Contains};
+ghost use Rattle.message.specs.Writing.{said, length_within, written_length};
 ghost use Rattle.message.specs.Writing.{answered, outcome, writing};
 
-use protocol::{Kind, Refusal};
+use protocol::{CommandId, Kind, Refusal};
 
 mod line;
 mod quoting;
@@ -20,7 +21,7 @@ mod quoting;
 pub use quoting::{escaped_in, is_escaped};
 
 // How the fields of a text line follow from a payload.
-#[derive(Clone, Copy)]
+#[derive(Clone, Copy, Debug, PartialEq, Eq)]
 pub enum Shape {
     // A number, which is the first byte, and the rest as a string.
     Numbered,
@@ -32,9 +33,108 @@ pub enum Shape {
     Bare,
 }
 
+// What a message is beside its payload: its ID, the word of its text line, and the shape of the
+// line's fields.
+#[derive(Clone, Copy)]
+pub struct Row {
+    pub id: u8,
+    pub word: &'static [u8],
+    pub shape: Shape,
+}
+
+pub const VERSION: Row = Row {
+    id: 128,
+    word: b"VERSION",
+    shape: Shape::Numbered,
+};
+
+pub const INFO: Row = Row {
+    id: 129,
+    word: b"INFO",
+    shape: Shape::Keyed,
+};
+
+pub const PONG: Row = Row {
+    id: 130,
+    word: b"PONG",
+    shape: Shape::Quoted,
+};
+
+pub const ERROR: Row = Row {
+    id: 131,
+    word: b"ERROR",
+    shape: Shape::Numbered,
+};
+
+const HELLO: Row = Row {
+    id: 0,
+    word: b"HELLO",
+    shape: Shape::Numbered,
+};
+
+const SUB: Row = Row {
+    id: 1,
+    word: b"SUB",
+    shape: Shape::Quoted,
+};
+
+const UNSUB: Row = Row {
+    id: 2,
+    word: b"UNSUB",
+    shape: Shape::Quoted,
+};
+
+const READ: Row = Row {
+    id: 3,
+    word: b"READ",
+    shape: Shape::Quoted,
+};
+
+const WRITE: Row = Row {
+    id: 4,
+    word: b"WRITE",
+    shape: Shape::Keyed,
+};
+
+const BEGIN: Row = Row {
+    id: 5,
+    word: b"BEGIN",
+    shape: Shape::Bare,
+};
+
+const COMMIT: Row = Row {
+    id: 6,
+    word: b"COMMIT",
+    shape: Shape::Bare,
+};
+
+const PING: Row = Row {
+    id: 7,
+    word: b"PING",
+    shape: Shape::Quoted,
+};
+
+// The row of a command.
+impl From<CommandId> for Row {
+    ghost from_gives = { λ id r. row_in_code r ≡ row_of (id_of id) };
+
+    fn from(id: CommandId) -> Row {
+        match id {
+            CommandId::Hello => HELLO,
+            CommandId::Sub => SUB,
+            CommandId::Unsub => UNSUB,
+            CommandId::Read => READ,
+            CommandId::Write => WRITE,
+            CommandId::Begin => BEGIN,
+            CommandId::Commit => COMMIT,
+            CommandId::Ping => PING,
+        }
+    }
+}
+
 // A message of the server. A body goes with it: for an INFO a key, or a key, NUL and a value; for a
 // PONG an identifier. The others have no use for it.
-#[derive(Clone, Copy)]
+#[derive(Clone, Copy, Debug, PartialEq, Eq)]
 pub enum Message {
     Version,
     Info,
@@ -42,11 +142,53 @@ pub enum Message {
     Error(Refusal),
 }
 
-// What a writer answers.
-#[derive(Clone, Copy)]
-pub enum Written {
-    // The message stands at the start of the out slice, and this is its length.
-    Done(usize),
+// A message's row and its payload.
+struct Content<'a> {
+    row: Row,
+    payload: &'a [u8],
+}
+
+impl Message {
+    // What the message of a body is.
+    fn content<'a>(self, body: &'a [u8]) -> Content<'a>
+        ensures { Contains (row_in_code result.row) result.payload.now (said self body.now) }
+    {
+        match self {
+            Message::Version => Content {
+                row: VERSION,
+                payload: b"\x00",
+            },
+            Message::Info => Content {
+                row: INFO,
+                payload: body,
+            },
+            Message::Pong => Content {
+                row: PONG,
+                payload: body,
+            },
+            Message::Error(refusal) => Content {
+                row: ERROR,
+                payload: reason(refusal),
+            },
+        }
+    }
+}
+
+// The payload of an ERROR: the refusal's number and a text.
+fn reason(refusal: Refusal) -> &'static [u8]
+    ensures { result.now ≡ message_payload (error refusal) }
+{
+    match refusal {
+        Refusal::Unknown => b"\x64unknown message",
+        Refusal::Parameter => b"\x65bad parameter",
+        Refusal::Room => b"\x66no room",
+        Refusal::State => b"\x67bad state",
+    }
+}
+
+// Why a message is not written.
+#[derive(Clone, Copy, Debug, PartialEq, Eq)]
+pub enum Unwritten {
     // The out slice is shorter than the message.
     Short,
     // The payload passes 65,535 bytes.
@@ -54,147 +196,86 @@ pub enum Written {
 }
 
 // How many bytes a message is, or 0 where its payload passes 65,535 bytes.
+// Kept: the definition `length_with` states the length of such a message as 0.
 pub fn written_length(kind: Kind, message: Message, body: &[u8]) -> usize
     ensures { result ≡ written_length kind (said message body.now) }
 {
-    match message {
-        Message::Version => message_length(kind, 128, b"VERSION", Shape::Numbered, b"\x00"),
-        Message::Info => message_length(kind, 129, b"INFO", Shape::Keyed, body),
-        Message::Pong => message_length(kind, 130, b"PONG", Shape::Quoted, body),
-        Message::Error(r) => error_length(kind, r),
-    }
+    let Content { row, payload } = message.content(body);
+    message_length(kind, row, payload).unwrap_or(0)
 }
 
 // Writes a message at the start of out, leaves the rest of out as it was, and gives the message's
 // length. The answer is TooLong where the payload passes 65,535 bytes, else Short where out is
 // shorter than the message; both leave out as it was.
-pub fn write(kind: Kind, message: Message, body: &[u8], out: &mut [u8]) -> Written
+#[tactic(auto, unfolding(crate::specs::Forms::encoded, crate::specs::Forms::written))]
+pub fn write(kind: Kind, message: Message, body: &[u8], out: &mut [u8]) -> Result<usize, Unwritten>
     ensures { answered result out.new
         ≡ writing kind (said message body.now) out.old }
 {
-    match message {
-        Message::Version => encode(kind, 128, b"VERSION", Shape::Numbered, b"\x00", out),
-        Message::Info => encode(kind, 129, b"INFO", Shape::Keyed, body, out),
-        Message::Pong => encode(kind, 130, b"PONG", Shape::Quoted, body, out),
-        Message::Error(r) => write_error(kind, r, out),
-    }
+    let Content { row, payload } = message.content(body);
+    encode(kind, row, payload, out)
 }
 
-// Writes the command of an ID, which is one of the eight, and a payload, as `write` does.
-pub fn write_command(kind: Kind, id: u8, payload: &[u8], out: &mut [u8]) -> Written
-    requires { id < 8 }
+// Writes the command of an ID and a payload, as `write` does.
+#[tactic(auto, unfolding(crate::specs::Forms::encoded))]
+pub fn write_command(
+    kind: Kind,
+    id: CommandId,
+    payload: &[u8],
+    out: &mut [u8],
+) -> Result<usize, Unwritten>
     ensures { answered result out.new
         ≡ outcome payload.now
-        (encoded kind id payload.now) out.old }
+        (encoded kind (id_of id) payload.now) out.old }
 {
-    match id {
-        0 => encode(kind, 0, b"HELLO", Shape::Numbered, payload, out),
-        1 => encode(kind, 1, b"SUB", Shape::Quoted, payload, out),
-        2 => encode(kind, 2, b"UNSUB", Shape::Quoted, payload, out),
-        3 => encode(kind, 3, b"READ", Shape::Quoted, payload, out),
-        4 => encode(kind, 4, b"WRITE", Shape::Keyed, payload, out),
-        5 => encode(kind, 5, b"BEGIN", Shape::Bare, payload, out),
-        6 => encode(kind, 6, b"COMMIT", Shape::Bare, payload, out),
-        _ => encode(kind, 7, b"PING", Shape::Quoted, payload, out),
-    }
+    encode(kind, Row::from(id), payload, out)
 }
 
-// How many bytes an ERROR is.
-fn error_length(kind: Kind, refusal: Refusal) -> usize
-    ensures { result ≡ written_length kind (Terms.error refusal) }
+// How many bytes a payload is as the message of a row, or None where it passes 65,535 bytes.
+#[tactic(auto, using(crate::proofs::FormLaws::within), unfolding(crate::specs::Forms::form))]
+fn message_length(kind: Kind, row: Row, payload: &[u8]) -> Option<usize>
+    ensures { result ≡ length_within payload.now
+        (form kind (row_in_code row) payload.now) }
 {
-    match refusal {
-        Refusal::Unknown => message_length(
-            kind,
-            131,
-            b"ERROR",
-            Shape::Numbered,
-            b"\x64unknown message",
-        ),
-        Refusal::Parameter => message_length(
-            kind,
-            131,
-            b"ERROR",
-            Shape::Numbered,
-            b"\x65bad parameter",
-        ),
-        Refusal::Room => message_length(kind, 131, b"ERROR", Shape::Numbered, b"\x66no room"),
-        Refusal::State => message_length(kind, 131, b"ERROR", Shape::Numbered, b"\x67bad state"),
+    if payload.len() > 65535 {
+        return None;
     }
-}
-
-// Writes an ERROR as `write` does.
-fn write_error(kind: Kind, refusal: Refusal, out: &mut [u8]) -> Written
-    ensures { answered result out.new
-        ≡ writing kind (Terms.error refusal) out.old }
-{
-    match refusal {
-        Refusal::Unknown => encode(
-            kind,
-            131,
-            b"ERROR",
-            Shape::Numbered,
-            b"\x64unknown message",
-            out,
-        ),
-        Refusal::Parameter => encode(
-            kind,
-            131,
-            b"ERROR",
-            Shape::Numbered,
-            b"\x65bad parameter",
-            out,
-        ),
-        Refusal::Room => encode(kind, 131, b"ERROR", Shape::Numbered, b"\x66no room", out),
-        Refusal::State => encode(kind, 131, b"ERROR", Shape::Numbered, b"\x67bad state", out),
-    }
-}
-
-// How many bytes the message of an ID and a payload is, or 0 where the payload passes 65,535 bytes.
-fn message_length(kind: Kind, id: u8, word: &[u8], shape: Shape, payload: &[u8]) -> usize
-    ensures { result ≡ length_with payload.now
-        (form kind (row id word.now shape) payload.now) }
-{
-    if 65535 < payload.len() {
-        return 0;
-    }
-    match kind {
+    Some(match kind {
         Kind::Packets => 1 + payload.len(),
-        Kind::Stream => 3 + payload.len(),
-        Kind::Framed => 3 + payload.len(),
-        Kind::Text => line::line_length(id, word, shape, payload),
-    }
+        Kind::Stream | Kind::Framed => 3 + payload.len(),
+        Kind::Text => line::line_length(row, payload),
+    })
 }
 
-// Writes the message of an ID and a payload at the start of out, as `write` does.
-fn encode(kind: Kind, id: u8, word: &[u8], shape: Shape, payload: &[u8], out: &mut [u8]) -> Written
+// Writes a payload as the message of a row at the start of out, as `write` does.
+#[tactic(auto, using(crate::proofs::FormLaws::outcomes))]
+fn encode(kind: Kind, row: Row, payload: &[u8], out: &mut [u8]) -> Result<usize, Unwritten>
     ensures { answered result out.new
         ≡ outcome payload.now
-        (form kind (row id word.now shape) payload.now) out.old }
+        (form kind (row_in_code row) payload.now) out.old }
 {
-    if 65535 < payload.len() {
-        return Written::TooLong;
-    }
-    let n = message_length(kind, id, word, shape, payload);
+    let Some(n) = message_length(kind, row, payload) else {
+        return Err(Unwritten::TooLong);
+    };
     if out.len() < n {
-        return Written::Short;
+        return Err(Unwritten::Short);
     }
-    put_message(kind, id, word, shape, payload, out);
-    Written::Done(n)
+    put_message(kind, row, payload, out);
+    Ok(n)
 }
 
-// Writes the message of an ID and a payload at the start of out, which has room for it.
-fn put_message(kind: Kind, id: u8, word: &[u8], shape: Shape, payload: &[u8], out: &mut [u8])
+// Writes a payload as the message of a row at the start of out, which has room for it.
+#[tactic(auto, unfolding(crate::specs::Forms::form))]
+fn put_message(kind: Kind, row: Row, payload: &[u8], out: &mut [u8])
     requires { HasRoom payload.now
-        (form kind (row id word.now shape) payload.now) out.old }
+        (form kind (row_in_code row) payload.now) out.old }
     ensures { out.new ≡ sets out.old 0
-        (form kind (row id word.now shape) payload.now) }
+        (form kind (row_in_code row) payload.now) }
 {
     match kind {
-        Kind::Packets => put_packet(id, payload, out),
-        Kind::Stream => put_frame(id, payload, out),
-        Kind::Framed => put_frame(id, payload, out),
-        Kind::Text => line::put_line(out, id, word, shape, payload),
+        Kind::Packets => put_packet(row.id, payload, out),
+        Kind::Stream | Kind::Framed => put_frame(row.id, payload, out),
+        Kind::Text => line::put_line(out, row, payload),
     }
 }
 
@@ -207,15 +288,13 @@ fn put_packet(id: u8, payload: &[u8], out: &mut [u8])
     octets::copy(out, 1, payload);
 }
 
-// Writes a frame at the start of out, as far as out goes.
+// Writes a frame at the start of out, which has room for it.
 fn put_frame(id: u8, payload: &[u8], out: &mut [u8])
-    requires { length payload.now ≤ 65535 }
+    requires { HasRoom payload.now (frame id payload.now) out.old }
     ensures { out.new ≡ sets out.old 0
         (frame id payload.now) }
 {
-    let n = payload.len();
-    octets::put(out, 0, id);
-    octets::put(out, 1, (n / 256) as u8);
-    octets::put(out, 2, (n % 256) as u8);
+    out[0] = id;
+    octets::put_number::<2>(out, 1, payload.len());
     octets::copy(out, 3, payload);
 }

@@ -1,22 +1,25 @@
 -- Theorems about the definitions of this crate: the bound on the steps, what `accepted` is to `answer`, and that
 -- nothing of a valid pattern is left out of its tree.
-use mathlib.Core.Path.{◌≡◌, refl, sym}
+use mathlib.Core.Path.{◌≡◌, refl}
 use mathlib.Core.List.{List, [], ◌∷◌}
-use mathlib.Core.Bool.{Bool, true, false, ◌&&◌}
+use mathlib.Core.Bool.{Bool, true, false}
 use Prim.Native.Nat.{ℕ, ◌+◌, ◌-◌, ◌*◌, ◌≤◌}
 use native.Mathlib.Omega.{arith}
 use lib.Dec.{ltb}
 use lib.ListN.{length}
 use borrow.Author.Tests.{eqb-true, ltb-true}
+use Rattle.std.proofs.lemmas.Bool.{and_parts}
+use Rattle.std.specs.Prelude.{Result}
 use Rattle.octets.specs.Octets.{Bytes}
+use Rattle.protocol.specs.declared.Refusal.{Refusal}
 use Rattle.pattern.specs.declared.token.Token.{Token}
 use Rattle.pattern.specs.declared.token.Token.TheVariants.{Open, Bar, Close, Star, Any, Byte, Backslash}
 use Rattle.pattern.specs.Tokens.{tokens}
 use Rattle.pattern.specs.Syntax.{star_fits, fits, valid}
 use Rattle.pattern.specs.Parts.{parts}
 use Rattle.pattern.specs.Tree.{Seq, Level, outside, inside, above, on_seq, grow, tree, sequence, tree_of}
-use Rattle.pattern.specs.declared.Match.{Match}
-use Rattle.pattern.specs.Answer.{outcome, steps_of, too_long, answer, Matched, accepted}
+use Rattle.pattern.specs.declared.Verdict.{Verdict}
+use Rattle.pattern.specs.Answer.{outcome, steps_of, too_long, match_of, answer, Matched, accepted}
 use Rattle.pattern.specs.Checking.{tokens_at}
 use Rattle.pattern.proofs.Answers.{answer-invalid, answer-long, answer-short, accepted-long}
 use Rattle.pattern.proofs.Bound.{steps-sequence}
@@ -41,7 +44,7 @@ answer-steps p k =
     (λ v. rw (answer-invalid p k v) (omega arith))
 
 -- So what a match gives keeps the bound.
-pub matched : (p k : Bytes) (r : Match) → r ≡ answer p k → Matched p k r
+pub matched : (p k : Bytes) (r : Result Verdict Refusal) → match_of r ≡ answer p k → Matched p k r
 matched p k r e = record { value = e; bounded = rw e (answer-steps p k) }
 
 -- Of a valid pattern `accepted` is the yes or no of a match.
@@ -66,41 +69,30 @@ unfolding depth above
 depth-above (outside s) = refl
 depth-above (inside b up) = omega arith
 
-left-of : (a b : Bool) → a && b ≡ true → a ≡ true
-left-of true b e = refl
-left-of false b e = e
-
-right_of : (a b : Bool) → a && b ≡ true → b ≡ true
-right_of true b e = e
-right_of false b e = let z : true ≡ false = sym e in cc
-
-never : {A : Type 0} → false ≡ true → A
-never e = let z : ◌≡◌ {A = ℕ} 0 1 = cc in absurd (omega arith)
-
 balanced : (ts : List Token) (left : ℕ) → left ≤ 4 → fits left ts ≡ true → left + depth (tree (parts ts)) ≡ 4
 unfolding fits parts tree grow depth star_fits
 balanced [] left b e = omega (arith, eqb-true left 4 e)
 balanced (Byte c ∷ ts) left b e = rw depth-on (balanced ts left b e)
 balanced (Any ∷ ts) left b e = rw depth-on (balanced ts left b e)
 balanced (Open ∷ ts) left b e =
-    let h = balanced ts (left - 1) (omega arith) (right_of (ltb 0 left) (fits (left - 1) ts) e) in
-    let q = ltb-true 0 left (left-of (ltb 0 left) (fits (left - 1) ts) e) in
-    rw (depth-on, depth-above) (omega (arith, h, q))
+    let f = and_parts (ltb 0 left) (fits (left - 1) ts) e in
+    rw (depth-on, depth-above) (omega (arith, balanced ts (left - 1) (omega arith) f.1, ltb-true 0 left f.0))
 balanced (Bar ∷ ts) left b e =
-    let h = balanced ts left b (right_of (ltb left 4) (fits left ts) e) in
-    rw depth-above (omega (arith, h, ltb-true left 4 (left-of (ltb left 4) (fits left ts) e)))
+    let f = and_parts (ltb left 4) (fits left ts) e in
+    rw depth-above (omega (arith, balanced ts left b f.1, ltb-true left 4 f.0))
 balanced (Close ∷ ts) left b e =
-    let l = ltb-true left 4 (left-of (ltb left 4) (fits (left + 1) ts) e) in
-    omega (arith, balanced ts (left + 1) (omega arith) (right_of (ltb left 4) (fits (left + 1) ts) e))
-balanced (Backslash ∷ ts) left b e = never e
+    let f = and_parts (ltb left 4) (fits (left + 1) ts) e in
+    let l = ltb-true left 4 f.0 in
+    omega (arith, balanced ts (left + 1) (omega arith) f.1)
+balanced (Backslash ∷ ts) left b e = absurd cc
 balanced (Star ∷ []) left b e = rw depth-on (omega (arith, eqb-true left 4 e))
 balanced (Star ∷ Byte c ∷ ts) left b e = rw depth-on (balanced ts left b e)
 balanced (Star ∷ Any ∷ ts) left b e = rw depth-on (balanced ts left b e)
 balanced (Star ∷ Bar ∷ ts) left b e = rw depth-on (balanced (Bar ∷ ts) left b e)
 balanced (Star ∷ Close ∷ ts) left b e = rw depth-on (balanced (Close ∷ ts) left b e)
-balanced (Star ∷ Open ∷ ts) left b e = never e
-balanced (Star ∷ Star ∷ ts) left b e = never e
-balanced (Star ∷ Backslash ∷ ts) left b e = never e
+balanced (Star ∷ Open ∷ ts) left b e = absurd cc
+balanced (Star ∷ Star ∷ ts) left b e = absurd cc
+balanced (Star ∷ Backslash ∷ ts) left b e = absurd cc
 
 at_top : (l : Level) → depth l ≡ 0 → l ≡ outside (sequence l)
 unfolding depth sequence

@@ -10,7 +10,7 @@ use lib.Seq.{drop-cons}
 use lib.Dec.{eqb}
 use borrow.Author.Tests.{eq-eqb, ne_eqb}
 use Rattle.octets.specs.Octets.{Bytes}
-use Rattle.pattern.specs.declared.token.Token.TheVariants.{Byte, Backslash}
+use Rattle.pattern.specs.declared.token.Token.TheVariants.{Byte}
 use Rattle.pattern.specs.Tokens.{single, tokens}
 use Rattle.pattern.specs.Checking.{tokens_at}
 
@@ -32,12 +32,11 @@ module _ (p : Bytes) (at : ℕ) where
   unfolding tokens_at
   token-plain h n = rw (add-one, drop-cons p at 0) (tokens-plain _ _ (ne_eqb _ _ n))
 
-  pub token-last : at < length p → length p ≤ at + 1 → get_or p at 0 ≡ 92
-      → tokens_at p at ≡ Backslash ∷ tokens_at p (at + 1)
-  unfolding tokens_at tokens single
-  token-last h l e =
+  pub token-last : at < length p → length p ≤ at + 1 → tokens_at p at ≡ single (get_or p at 0) ∷ tokens_at p (at + 1)
+  unfolding tokens_at tokens
+  token-last h l =
       let l' : length p ≤ suc at = omega arith in
-      rw (add-one, drop-cons p at 0, drop_of_length-le, e)
+      rw (add-one, drop-cons p at 0, drop_of_length-le)
 
   pub token-escape : at + 1 < length p → get_or p at 0 ≡ 92
       → tokens_at p at ≡ Byte (get_or p (at + 1) 0) ∷ tokens_at p (at + 2)

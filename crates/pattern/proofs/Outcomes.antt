@@ -1,9 +1,12 @@
 -- Laws of outcomes: steps added, elements in a row, and branches tried in turn.
 use mathlib.Core.Path.{◌≡◌, refl}
-use mathlib.Core.Bool.{Bool, true, false}
+use mathlib.Core.Bool.{true, false}
 use Prim.Native.Nat.{ℕ, ◌+◌, ◌≤◌}
 use native.Mathlib.Nat.{zero-add, add_assoc}
 use native.Mathlib.Omega.{arith}
+use lib.ListN.{drop}
+use Rattle.std.specs.Prelude.{Option, Some, None}
+use Rattle.std.specs.Option.{is_some}
 use Rattle.octets.specs.Octets.{Bytes}
 use Rattle.pattern.specs.Tree.{Branches, Level, last, ◌or◌, outside, inside, branches, first, sequence}
 use Rattle.pattern.specs.Matching.{Outcome, hit, miss, more, and_then, or_else, seq_m, branch_m}
@@ -25,10 +28,19 @@ unfolding more steps_of
 steps-more n (hit k m) = refl
 steps-more n (miss m) = refl
 
-pub steps-reported : (b : Bool) (k : Bytes) (n : ℕ) → steps_of (reported b k n) ≡ n
+pub steps-reported : (key : Bytes) (r : Option ℕ) (n : ℕ) → steps_of (reported key r n) ≡ n
 unfolding steps_of
-steps-reported true k n = refl
-steps-reported false k n = refl
+steps-reported key (Some k) n = refl
+steps-reported key None n = refl
+
+pub more-reported : (m : ℕ) (key : Bytes) (r : Option ℕ) (n : ℕ) → more m (reported key r n) ≡ reported key r (m + n)
+unfolding more
+more-reported m key (Some k) n = refl
+more-reported m key None n = refl
+
+pub reported-none : (key : Bytes) (r : Option ℕ) (n : ℕ) → is_some r ≡ false → reported key r n ≡ miss n
+reported-none key None n e = refl
+reported-none key (Some k) n e = let z : true ≡ false = e in cc
 
 pub steps_then : (o : Outcome) (f : Bytes → Outcome) → steps_of o ≤ steps_of (and_then o f)
 unfolding and_then steps_of
@@ -41,12 +53,16 @@ steps-else (hit k n) p = omega arith
 steps-else (miss n) p = omega (arith, steps-more n p)
 
 -- The branches at a key, by the one that comes first: it matches, it is the last, or another follows.
-pub branch-hit : (l : Level) (k k₁ : Bytes) (n : ℕ) → seq_m (sequence l) k ≡ hit k₁ n
-    → branch_m (branches l) k ≡ hit k₁ n
+first-hit : (l : Level) (k k₁ : Bytes) (n : ℕ) → seq_m (sequence l) k ≡ hit k₁ n → branch_m (branches l) k ≡ hit k₁ n
 unfolding branches sequence first branch_m or_else
-branch-hit (outside s) k k₁ n e = e
-branch-hit (inside (last s) up) k k₁ n e = e
-branch-hit (inside (s or b) up) k k₁ n e = rw e
+first-hit (outside s) k k₁ n e = e
+first-hit (inside (last s) up) k k₁ n e = e
+first-hit (inside (s or b) up) k k₁ n e = rw e
+
+pub branch-hit : (l : Level) (k key : Bytes) (r : Option ℕ) (n : ℕ) → is_some r ≡ true
+    → seq_m (sequence l) k ≡ reported key r n → branch_m (branches l) k ≡ reported key r n
+branch-hit l k key (Some k₁) n t e = first-hit l k (drop k₁ key) n e
+branch-hit l k key None n t e = let z : false ≡ true = t in cc
 
 pub branch-last : (l : Level) (k : Bytes) → branches l ≡ last (sequence l)
     → branch_m (branches l) k ≡ seq_m (sequence l) k

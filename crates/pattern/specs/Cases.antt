@@ -1,13 +1,12 @@
 -- Further cases of patterns that are easy to get wrong, by computation, as one statement: half of them are refusals.
 use Rattle.std.specs.Prelude.{ℕ, ◌≡◌, refl, List, [], ◌∷◌, ◌++◌, map, Bool, replicate}
 use Rattle.octets.specs.Octets.{Bytes, ascii}
-use Rattle.pattern.specs.declared.Match.{Match}
 use Rattle.pattern.specs.Tokens.{single, tokens}
 use Rattle.pattern.specs.Syntax.{star_fits, fits, valid}
 use Rattle.pattern.specs.Parts.{parts}
 use Rattle.pattern.specs.Tree.{branches, above, on_first, on_seq, grow, tree, first, sequence, tree_of}
 use Rattle.pattern.specs.Matching as M
-use Rattle.pattern.specs.Answer.{outcome, whole, steps_of, too_long, refusal, answer}
+use Rattle.pattern.specs.Answer.{Match, outcome, whole, steps_of, too_long, refusal, answer}
 use Rattle.pattern.specs.Table.{yes, no}
 
 -- A pattern, a key, and what a match gives.

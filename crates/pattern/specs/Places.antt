@@ -1,7 +1,7 @@
 -- What the functions of the modules element and part ensure of a place in a key and a place in a pattern.
 -- `lev` gives what stands from each place of a pattern on; the pattern has `size` places. `tree_at` is that of a
 -- pattern's bytes.
-use Rattle.std.specs.Prelude.{ℕ, ◌+◌, ◌≤◌, ◌≡◌, ◌∷◌, Bool, true, false, length, drop}
+use Rattle.std.specs.Prelude.{ℕ, ◌+◌, ◌≤◌, ◌≡◌, ◌∷◌, Option, Some, None, IfSome, length, drop}
 use Rattle.octets.specs.Octets.{Bytes}
 use Rattle.pattern.specs.declared.token.Token.{Token}
 use Rattle.pattern.specs.declared.token.Token.TheVariants.{Open, Bar, Close, Star, Any, Byte, Backslash}
@@ -14,15 +14,19 @@ use Rattle.pattern.specs.Tree.{Level, grow, tree}
 use Rattle.pattern.specs.Matching.{Outcome, hit, miss}
 use Rattle.pattern.specs.Checking.{tokens_at}
 
--- The outcome that code reports as a flag, what is left of the key, and steps.
-abbrev pub reported : Bool → Bytes → ℕ → Outcome
-reported true k n = hit k n
-reported false k n = miss n
+-- The outcome that code reports as the place where the key goes on, or none, and steps.
+abbrev pub reported : Bytes → Option ℕ → ℕ → Outcome
+reported key (Some k) n = hit (drop k key) n
+reported key None n = miss n
+
+-- The key goes on within it, where it goes on.
+abbrev pub GoesOn : Bytes → Option ℕ → Type 0
+GoesOn key r = IfSome r (λ k. k ≤ length key)
 
 -- `r` is what f does at the key from k on.
 pub record Took (f : Bytes → Outcome) (key : Bytes) (k : ℕ) (r : Taken) : Type 0 where
-  pub is : f (drop k key) ≡ reported r.matched (drop r.key key) r.steps
-  pub within : r.key ≤ length key
+  pub is : f (drop k key) ≡ reported key r.key r.steps
+  pub within : GoesOn key r.key
 
 -- The level from a place of the pattern on.
 abbrev pub tree_at : Bytes → ℕ → Level

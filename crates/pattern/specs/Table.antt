@@ -2,13 +2,12 @@
 use Rattle.std.specs.Prelude.{ℕ, ◌≡◌, refl, List, [], ◌∷◌, map, Bool, true, false}
 use Prim.Native.String.{String}
 use Rattle.octets.specs.Octets.{ascii}
-use Rattle.pattern.specs.declared.Match.{Match}
 use Rattle.pattern.specs.Tokens.{single, tokens}
 use Rattle.pattern.specs.Syntax.{star_fits, fits, valid}
 use Rattle.pattern.specs.Parts.{parts}
 use Rattle.pattern.specs.Tree.{branches, above, on_first, on_seq, grow, tree, first, sequence, tree_of}
 use Rattle.pattern.specs.Matching as M
-use Rattle.pattern.specs.Answer.{outcome, whole, steps_of, too_long, answer}
+use Rattle.pattern.specs.Answer.{Match, outcome, whole, steps_of, too_long, answer}
 
 -- A pattern, a key, yes or no, and the steps.
 abbrev Row : Type 0

@@ -9,7 +9,7 @@ use Rattle.pattern.specs.declared.Verdict.{Verdict}
 use Rattle.pattern.specs.Tree.{Level, done, last, ◌or◌, inside, branches, above, on_seq, sequence}
 use Rattle.pattern.specs.Matching.{Outcome, seq_m, branch_m}
 use Rattle.pattern.specs.Answer.{outcome, whole, steps_of}
-use Rattle.pattern.specs.Places.{tree_at, reported}
+use Rattle.pattern.specs.Places.{tree_at, reported, GoesOn}
 
 -- A level with its sequence walked to the end.
 unfoldable pub ended : Level → Level
@@ -50,8 +50,8 @@ pub record Short (p key : Bytes) (at k : ℕ) : Type 0 where
 pub record Reports (size : ℕ) (key : Bytes) (at : ℕ) (o : Outcome) (r : Walk) : Type 0 where
   pub on : at ≤ r.at
   pub within : r.at ≤ size
-  pub key-within : r.key ≤ length key
-  pub is : o ≡ reported r.matched (drop r.key key) r.steps
+  pub key-within : GoesOn key r.key
+  pub is : o ≡ reported key r.key r.steps
 
 -- The walk along the sequence from `at` on stands in the same branch.
 pub record Walked (lev : ℕ → Level) (size : ℕ) (key : Bytes) (at k : ℕ) (r : Walk) : Type 0 where

@@ -14,11 +14,10 @@ pub enum Simple {
     Rest,
 }
 
-// Whether an element matched, where the key goes on, and the steps.
+// Where the key goes on after an element that matched, or None where it did not, and the steps.
 #[derive(Clone, Copy)]
 pub struct Taken {
-    pub matched: bool,
-    pub key: usize,
+    pub key: Option<usize>,
     pub steps: usize,
 }
 
@@ -27,21 +26,15 @@ fn take_upto(key: &[u8], k: usize, c: u8) -> Taken
     requires { k ≤ length key.now }
     ensures { Took (Matching.upto c) key.now k result }
 {
-    let mut i = k;
-    while i < key.len() {
-        if key[i] == c {
-            return Taken {
-                matched: true,
-                key: i + 1,
-                steps: i + 1 - k,
-            };
-        }
-        i += 1;
-    }
-    Taken {
-        matched: false,
-        key: i,
-        steps: i - k + 1,
+    match key[k..].iter().position(|&x| x == c) {
+        Some(passed) => Taken {
+            key: Some(k + passed + 1),
+            steps: passed + 1,
+        },
+        None => Taken {
+            key: None,
+            steps: key.len() - k + 1,
+        },
     }
 }
 
@@ -50,18 +43,8 @@ fn take_byte(key: &[u8], k: usize, c: u8) -> Taken
     requires { k ≤ length key.now }
     ensures { Took (Matching.simple_m (Simples.Byte c)) key.now k result }
 {
-    if k < key.len() {
-        if key[k] == c {
-            return Taken {
-                matched: true,
-                key: k + 1,
-                steps: 1,
-            };
-        }
-    }
     Taken {
-        matched: false,
-        key: k,
+        key: (k < key.len() && key[k] == c).then_some(k + 1),
         steps: 1,
     }
 }
@@ -71,32 +54,25 @@ fn take_any(key: &[u8], k: usize) -> Taken
     requires { k ≤ length key.now }
     ensures { Took (Matching.simple_m Simples.Any) key.now k result }
 {
-    if k < key.len() {
-        return Taken {
-            matched: true,
-            key: k + 1,
-            steps: 1,
-        };
-    }
     Taken {
-        matched: false,
-        key: k,
+        key: (k < key.len()).then_some(k + 1),
         steps: 1,
     }
 }
 
 // Takes from k on what the element x takes.
+#[tactic(auto, unfolding(crate::specs::Matching::simple_m))]
 pub fn take(key: &[u8], k: usize, x: Simple) -> Taken
     requires { k ≤ length key.now }
     ensures { Took (Matching.simple_m x) key.now k result }
 {
+    // Kept: the cases are closed, and a `match` shows that each has its step.
     match x {
         Simple::Byte(c) => take_byte(key, k, c),
         Simple::Any => take_any(key, k),
         Simple::Upto(c) => take_upto(key, k, c),
         Simple::Rest => Taken {
-            matched: true,
-            key: key.len(),
+            key: Some(key.len()),
             steps: 1,
         },
     }

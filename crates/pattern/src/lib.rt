@@ -5,6 +5,7 @@
 // Modules, low to high: token (a pattern byte by byte), syntax (which patterns are valid), element
 // (what one element takes of a key), part (elements and the marks of groups), walk (sequences and
 // branches).
+// Kept: a slice and a place in it stay apart: a walk goes back to a place, a shrunk slice does not.
 #![tactic(auto)]
 
 mod element;
@@ -15,92 +16,59 @@ mod walk;
 
 ghost use Rattle.std.specs.Prelude.{◌≡◌, false};
 ghost use Rattle.pattern.specs.Syntax.{valid};
-ghost use Rattle.pattern.specs.Answer;
 ghost use Rattle.pattern.specs.Answer.{Matched, accepted, too_long};
 ghost use Rattle.pattern.specs.Walking.{Ran};
 
-use syntax::{Checked, check};
+use protocol::Refusal;
+use syntax::check;
 use walk::walk_sequence;
 
-// What a match asked by itself gives: the answer (0, 101 or 102), yes or no, and the steps.
-#[derive(Clone, Copy)]
-pub struct Match {
-    pub answer: u32,
+// The yes or no and the steps of a match that is not refused.
+#[derive(Clone, Copy, Debug, PartialEq, Eq)]
+pub struct Verdict {
     pub matched: bool,
     pub steps: usize,
 }
 
-// The yes or no and the steps of a match that is not refused.
-#[derive(Clone, Copy)]
-struct Verdict {
-    matched: bool,
-    steps: usize,
-}
-
 // Whether the pattern is valid.
+#[tactic(auto, unfolding(crate::specs::Syntax::valid, crate::specs::Checking::tokens_at))]
 pub fn is_valid(pattern: &[u8]) -> bool
     ensures { result ≡ valid pattern.now }
 {
-    let r = check(pattern, 0, 4);
-    match r {
-        Checked::Upto(_) => true,
-        Checked::Invalid => false,
-    }
+    check(pattern, 0, 4).is_some()
 }
 
-// Matches the pattern against the key. Answer 101: the pattern is invalid. Answer 102: it is valid,
-// and longer than 255 bytes or the key is longer than 65,535. Both come with no match and 0 steps.
-// Otherwise the answer is 0. The steps are never more than the pattern's bytes times one more than
-// the key's.
-pub fn matches(pattern: &[u8], key: &[u8]) -> Match
+// Matches the pattern against the key. Parameter: the pattern is invalid. Room: it is valid, and
+// longer than 255 bytes or the key is longer than 65,535. The steps are never more than the
+// pattern's bytes times one more than the key's.
+pub fn matches(pattern: &[u8], key: &[u8]) -> Result<Verdict, Refusal>
     ensures { Matched pattern.now key.now result }
 {
     if !is_valid(pattern) {
-        return refusal(101);
+        return Err(Refusal::Parameter);
     }
     if is_too_long(pattern, key) {
-        return refusal(102);
+        return Err(Refusal::Room);
     }
-    let r = run(pattern, key);
-    Match {
-        answer: 0,
-        matched: r.matched,
-        steps: r.steps,
-    }
+    Ok(run(pattern, key))
 }
 
 // Whether the pattern matches the key, without the syntax check: for patterns that are known to be
 // valid. It is false for a pattern of over 255 bytes or a key of over 65,535. For an invalid
 // pattern it is whatever the pattern's tree gives.
+#[tactic(auto, unfolding(crate::specs::Answer::accepted))]
 pub fn accepts(pattern: &[u8], key: &[u8]) -> bool
     ensures { result ≡ accepted pattern.now key.now }
 {
-    if is_too_long(pattern, key) {
-        return false;
-    }
-    let r = run(pattern, key);
-    r.matched
-}
-
-// The result of a match that is refused with `answer`.
-fn refusal(answer: u32) -> Match
-    ensures { result ≡ Answer.refusal answer }
-{
-    Match {
-        answer,
-        matched: false,
-        steps: 0,
-    }
+    !is_too_long(pattern, key) && run(pattern, key).matched
 }
 
 // Whether the pattern or the key is too long for a match.
+#[tactic(auto, unfolding(crate::specs::Answer::too_long))]
 fn is_too_long(pattern: &[u8], key: &[u8]) -> bool
     ensures { result ≡ too_long pattern.now key.now }
 {
-    if pattern.len() > 255 {
-        return true;
-    }
-    key.len() > 65535
+    pattern.len() > 255 || key.len() > 65535
 }
 
 // Walks the whole pattern along the key, which must be used up for a match.
@@ -109,15 +77,8 @@ fn run(pattern: &[u8], key: &[u8]) -> Verdict
     ensures { Ran pattern.now key.now result }
 {
     let w = walk_sequence(pattern, 0, key, 0);
-    let k = w.key;
-    if k == key.len() {
-        return Verdict {
-            matched: w.matched,
-            steps: w.steps,
-        };
-    }
     Verdict {
-        matched: false,
+        matched: w.key == Some(key.len()),
         steps: w.steps,
     }
 }

@@ -3,7 +3,7 @@ ghost use Rattle.std.specs.Prelude.{◌≡◌, ◌≤◌, ◌<◌, length};
 ghost use Rattle.pattern.specs.Places.{star_of, StarAt, PartAt};
 
 use crate::element::Simple;
-use crate::token::{Token, token_at};
+use crate::token::{Lexeme, Token, token_at};
 
 // What stands at a place of a pattern, and where the next part starts.
 #[derive(Clone, Copy)]
@@ -21,11 +21,9 @@ fn star_part(t: Token, at: usize, next: usize) -> Found
     match t {
         Token::Byte(c) => Found::One(Simple::Upto(c), next),
         Token::Any => Found::One(Simple::Any, next),
-        Token::Bar => Found::One(Simple::Rest, at),
-        Token::Close => Found::One(Simple::Rest, at),
-        Token::Open => Found::One(Simple::Rest, at),
-        Token::Star => Found::One(Simple::Rest, at),
-        Token::Backslash => Found::One(Simple::Rest, at),
+        Token::Bar | Token::Close | Token::Open | Token::Star | Token::Backslash => {
+            Found::One(Simple::Rest, at)
+        }
     }
 }
 
@@ -34,24 +32,21 @@ fn star_at(pattern: &[u8], at: usize) -> Found
     requires { at ≤ length pattern.now }
     ensures { StarAt pattern.now at result }
 {
-    if at < pattern.len() {
-        let y = token_at(pattern, at);
-        let u = y.token;
-        let after = y.next;
-        return star_part(u, at, after);
+    if at == pattern.len() {
+        return Found::One(Simple::Rest, at);
     }
-    Found::One(Simple::Rest, at)
+    let Lexeme { token, next } = token_at(pattern, at);
+    star_part(token, at, next)
 }
 
 // The part that starts at `at`.
+#[tactic(auto, unfolding(crate::specs::Parts::parts, crate::specs::Tree::tree))]
 pub fn part_at(pattern: &[u8], at: usize) -> Found
     requires { at < length pattern.now }
     ensures { PartAt pattern.now at result }
 {
-    let x = token_at(pattern, at);
-    let t = x.token;
-    let next = x.next;
-    match t {
+    let Lexeme { token, next } = token_at(pattern, at);
+    match token {
         Token::Byte(c) => Found::One(Simple::Byte(c), next),
         Token::Any => Found::One(Simple::Any, next),
         Token::Open => Found::Open(next),

@@ -23,6 +23,7 @@ pub struct Lexeme {
 }
 
 // The token of a byte that no `\` stands before. A `\` counts as one that nothing follows.
+#[tactic(auto, unfolding(crate::specs::Tokens::single))]
 fn single(c: u8) -> Token
     ensures { result ≡ Tokens.single c }
 {
@@ -42,23 +43,14 @@ pub fn token_at(pattern: &[u8], at: usize) -> Lexeme
     requires { at < length pattern.now }
     ensures { TokenAt pattern.now at result }
 {
-    let c = pattern[at];
-    if c == b'\\' {
-        if at + 1 < pattern.len() {
-            let d = pattern[at + 1];
-            return Lexeme {
-                token: Token::Byte(d),
-                next: at + 2,
-            };
-        }
+    if pattern[at] == b'\\' && at + 1 < pattern.len() {
         return Lexeme {
-            token: Token::Backslash,
-            next: at + 1,
+            token: Token::Byte(pattern[at + 1]),
+            next: at + 2,
         };
     }
-    let token = single(c);
     Lexeme {
-        token,
+        token: single(pattern[at]),
         next: at + 1,
     }
 }

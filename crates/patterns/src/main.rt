@@ -6,22 +6,38 @@
 mod table;
 mod text;
 
+use pattern::Verdict;
+use protocol::Refusal;
 use std::env::FillError;
 use std::io;
 use std::rt::Env;
-use text::put;
+
+// The number that a match answers with.
+fn answer_of(given: Result<Verdict, Refusal>) -> u32 {
+    match given {
+        Ok(_) => 0,
+        Err(refusal) => u32::from(refusal),
+    }
+}
+
+// The yes or no and the steps of a match; a refused one is no match and takes no steps.
+fn verdict_of(given: Result<Verdict, Refusal>) -> Verdict {
+    given.unwrap_or(Verdict {
+        matched: false,
+        steps: 0,
+    })
+}
 
 // Prints what a match of the two gives.
 fn print_match(rt: &impl Print, pattern: &[u8], key: &[u8]) -> io::Result<()> {
-    let r = pattern::matches(pattern, key);
-    put(rt, b"answer ")?;
-    text::number(rt, r.answer as u64)?;
-    text::outcome(rt, r.matched, r.steps)?;
-    put(rt, b" steps  ")?;
+    let given = pattern::matches(pattern, key);
+    print!(rt; "answer {}", answer_of(given))?;
+    text::verdict(rt, verdict_of(given))?;
+    print!(rt; " steps  ")?;
     text::quoted(rt, pattern, 0)?;
-    put(rt, b"  ")?;
+    print!(rt; "  ")?;
     text::quoted(rt, key, 0)?;
-    put(rt, b"\n")
+    println!(rt)
 }
 
 // Says on standard error which argument cannot be read, and why.
@@ -35,6 +51,7 @@ fn fail(rt: &impl Eprint, what: &str, error: FillError) -> io::Result<()> {
 
 // Prints what a match of two of the program's arguments gives, or which of them cannot be read:
 // one of over 65,536 bytes.
+// Kept: arrays hold the arguments, and one that is longer than its array is refused.
 fn print_pair(rt: &(impl Env + Print + Eprint), first: usize, second: usize) -> io::Result<()> {
     let mut pattern = [0u8; 65536];
     let m = match rt.arg(first, &mut pattern) {
@@ -51,10 +68,8 @@ fn print_pair(rt: &(impl Env + Print + Eprint), first: usize, second: usize) -> 
 
 // Prints a line for each pair of arguments, of `count` with the program's name.
 fn print_pairs(rt: &(impl Env + Print + Eprint), count: usize) -> io::Result<()> {
-    let mut i = 0;
-    while i < count / 2 {
-        print_pair(rt, i + i + 1, i + i + 2)?;
-        i += 1;
+    for i in 0..count / 2 {
+        print_pair(rt, 2 * i + 1, 2 * i + 2)?;
     }
     Ok(())
 }
@@ -62,8 +77,7 @@ fn print_pairs(rt: &(impl Env + Print + Eprint), count: usize) -> io::Result<()>
 // How many arguments the program was started with, its own name among them.
 fn arg_count(rt: &impl Env) -> usize {
     for i in 0..usize::MAX {
-        let mut none = [0u8; 0];
-        if let Err(FillError::NotPresent) = rt.arg(i, &mut none) {
+        if let Err(FillError::NotPresent) = rt.arg(i, &mut []) {
             return i;
         }
     }
@@ -74,12 +88,10 @@ fn main(rt: HostRuntime) -> io::Result<()> {
     let count = arg_count(&rt);
     if count < 2 {
         table::print_table(&rt)?;
-        table::print_invalid(&rt)?;
-        return Ok(());
+        return table::print_invalid(&rt);
     }
     if count % 2 == 0 {
-        eprintln!(rt; "usage: patterns [PATTERN KEY ..]")?;
-        return Ok(());
+        return eprintln!(rt; "usage: patterns [PATTERN KEY ..]");
     }
     print_pairs(&rt, count)
 }

@@ -1,1 +1,3 @@
 pub mod Terms
+pub mod Ids
+pub mod Outcome

@@ -5,6 +5,7 @@ use Prim.Native.Nat.{ℕ, ◌+◌, ◌≤◌}
 use native.Mathlib.Omega.{arith}
 use lib.ListN.{length}
 use lib.Seq.{sets}
+use Rattle.std.specs.Prelude.{Result, Ok, Err}
 use Rattle.octets.specs.Octets.{Bytes, ascii}
 use Rattle.octets.specs.Number.{big_endian}
 use Rattle.octets.proofs.Parts.{sets_behind}
@@ -14,8 +15,8 @@ use Rattle.protocol.specs.declared.Refusal.TheVariants.{Unknown, Parameter, Room
 use Rattle.protocol.specs.Terms.{message_payload, reason}
 use Rattle.message.specs.declared.Message.{Message}
 use Rattle.message.specs.declared.Message.TheVariants.{Version, Info, Pong, Error}
-use Rattle.message.specs.declared.Written.{Written}
-use Rattle.message.specs.declared.Written.TheVariants.{Done, Short, TooLong}
+use Rattle.message.specs.declared.Unwritten.{Unwritten}
+use Rattle.message.specs.declared.Unwritten.TheVariants.{Short, TooLong}
 use Rattle.message.specs.Forms.{written}
 use Rattle.message.specs.Writing.{said, written_length, Outcome, answered, writing}
 use Rattle.message.proofs.FormLaws.{length_with-fits, outcome-done, payload-info}
@@ -41,13 +42,13 @@ pub written-length : (k : Kind) (m : Message) (b : Bytes) → length b ≤ 65535
     → written_length k (said m b) ≡ length (written k (said m b))
 written-length k m b h = length_with-fits (message_payload (said m b)) (written k (said m b)) (payload-fits m b h)
 
-answered-out : (r : Written) (o : Bytes) → (answered r o).out ≡ o
-answered-out (Done n) o = refl
-answered-out Short o = refl
-answered-out TooLong o = refl
+answered-out : (r : Result ℕ Unwritten) (o : Bytes) → (answered r o).out ≡ o
+answered-out (Ok n) o = refl
+answered-out (Err Short) o = refl
+answered-out (Err TooLong) o = refl
 
 -- a message that has room is written at the front
-pub written_out : (k : Kind) (m : Message) (b o o' : Bytes) (r : Written) → length b ≤ 65535
+pub written_out : (k : Kind) (m : Message) (b o o' : Bytes) (r : Result ℕ Unwritten) → length b ≤ 65535
     → length (written k (said m b)) ≤ length o → answered r o' ≡ writing k (said m b) o
     → o' ≡ sets o 0 (written k (said m b))
 written_out k m b o o' r h f e =
@@ -57,11 +58,11 @@ written_out k m b o o' r h f e =
 -- ---- the row in the region
 
 pub pushed_row : (q m : Bytes) (e n : ℕ) → e ≡ pending_end q → n ≡ length m
-    → sets (sets (sets q (16 + e) (big_endian 4 n)) (16 + e + 4) m) 8 (big_endian 4 (e + 4 + n)) ≡ pushed (row m) q
+    → sets (sets (sets q (16 + e) (big_endian 4 n)) (20 + e) m) 8 (big_endian 4 (e + 4 + n)) ≡ pushed (row m) q
 unfolding pushed row
 pushed_row q m e n p l =
-    let b : 16 + e + 4 ≡ 16 + e + length (big_endian 4 n) = rw (length-big_endian 4 n) in
-    let w : sets (sets q (16 + e) (big_endian 4 n)) (16 + e + 4) m ≡ sets q (16 + e) (big_endian 4 n ++ m) =
-    sets_behind q (16 + e) (16 + e + 4) (big_endian 4 n) m b in
+    let b : 20 + e ≡ 16 + e + length (big_endian 4 n) = rw (length-big_endian 4 n) (omega arith) in
+    let w : sets (sets q (16 + e) (big_endian 4 n)) (20 + e) m ≡ sets q (16 + e) (big_endian 4 n ++ m) =
+    sets_behind q (16 + e) (20 + e) (big_endian 4 n) m b in
     let v : e + 4 + n ≡ pending_end q + length (row m) = rw (length-row m) (omega arith) in
     rw (w, v, l, p)

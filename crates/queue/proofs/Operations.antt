@@ -1,11 +1,13 @@
 -- What each operation's writes make of a region, on plain lists.
 use mathlib.Core.Path.{◌≡◌, sym, ap₂, ◌∙◌}
 use mathlib.Core.List.{◌++◌}
+use mathlib.Core.Bool.{Bool, true, false}
 use Prim.Native.Nat.{ℕ, ◌+◌, ◌-◌, ◌≤◌, ◌<◌}
 use native.Mathlib.Omega.{arith}
 use lib.Dec.{T}
 use lib.ListN.{length, drop}
 use lib.Seq.{sets, length-sets}
+use Rattle.std.specs.Int.{from_bool}
 use Rattle.octets.specs.Octets.{Bytes}
 use Rattle.octets.specs.Part.{part, apart}
 use Rattle.octets.specs.Number.{number_at, big_endian}
@@ -111,26 +113,32 @@ settling q r f =
 
 -- ---- dropping what is pending
 
-pub dropping : (q : Bytes) (f : ℕ) → InStep 0 q → f ≤ 1
-    → Dropping f q (sets (sets q 8 (big_endian 4 (tail q))) 12 (big_endian 4 f))
-dropping q f r b =
-    let t : ℕ = tail q in
+from_bool-bit : (b : Bool) → from_bool b ≤ 1
+from_bool-bit true = omega arith
+from_bool-bit false = omega arith
+
+pub dropping : (q : Bytes) (b : Bool) (t : ℕ) → t ≡ tail q → InStep 0 q
+    → Dropping (from_bool b) q (sets (sets q 8 (big_endian 4 t)) 12 (big_endian 4 (from_bool b)))
+dropping q b t e r =
+    let f : ℕ = from_bool b in
+    let g : f ≤ 1 = from_bool-bit b in
     let q₁ : Bytes = sets q 8 (big_endian 4 t) in
     let q₂ : Bytes = sets q₁ 12 (big_endian 4 f) in
     let l₁ : length q₁ ≡ length q = length-sets q 8 (big_endian 4 t) in
     let l₂ : length q₂ ≡ length q₁ = length-sets q₁ 12 (big_endian 4 f) in
     let eh : head q₂ ≡ head q = number-other q₁ 12 f 0 tt ∙ number-other q 8 t 0 tt in
-    let et : tail q₂ ≡ t = number-other q₁ 12 f 4 tt ∙ number-other q 8 t 4 tt in
+    let et : tail q₂ ≡ t = number-other q₁ 12 f 4 tt ∙ number-other q 8 t 4 tt ∙ sym e in
     let ee : pending_end q₂ ≡ t = number-other q₁ 12 f 8 tt ∙ number-written q 8 t (omega arith) (omega arith) in
     let ef : flag q₂ ≡ f = number-written q₁ 12 f (omega arith) (omega arith) in
     let p : part q₂ (16 + head q) (t - head q) ≡ queued_of q =
-    part-number q₁ 12 f (head q) (t - head q) (omega arith) ∙ part-number q 8 t (head q) (t - head q) (omega arith) in
+    part-number q₁ 12 f (head q) (t - head q) (omega arith) ∙ part-number q 8 t (head q) (t - head q) (omega arith)
+    ∙ rw e in
     record {
       size = omega arith;
       fine = λ k m. omega arith;
       same-queued = rw (eh, et) p;
       same_head = eh;
-      end-tail = ee;
+      end-tail = ee ∙ e;
       none-pending = omega arith;
       flag-set = ef;
     }

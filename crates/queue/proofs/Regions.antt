@@ -61,6 +61,14 @@ fine-flag k q a b c d f g =
       eq-eqb (pending_end q) (tail q) g,
     )
 
+pub fine-clear : (k : ℕ) (q : Bytes) (b : Bool) → b ≡ not (eqb (flag q) 0) → queue_fine k q ≡ eqb (flag q) 0
+    → not b ≡ queue_fine k q
+fine-clear k q b e f = sym (f ∙ go (eqb (flag q) 0) e)
+  where
+    go : (t : Bool) → b ≡ not t → t ≡ not b
+    go true e = rw e
+    go false e = rw e
+
 pub rest-fine : (k : ℕ) (q : Bytes) → AtRest k q → queue_fine k q ≡ true
 rest-fine k q r =
     fine-flag k q (omega arith) (omega arith) (omega arith) (omega arith) (omega arith) (omega arith)

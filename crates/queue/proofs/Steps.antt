@@ -28,8 +28,8 @@ use Rattle.queue.proofs.Appending.{pushing}
 
 -- ---- a message more is pending
 
-pub appending : (q q₁ m : Bytes) (n : ℕ) → Appendable m n q → Making n q q₁ → Appending m n q (pushed (row m) q₁)
-appending q q₁ m n a v =
+pub appending : (q q₁ m : Bytes) (n : ℕ) → n ≡ length m → Appendable n q → Making n q q₁ → Appending m n q (pushed (row m) q₁)
+appending q q₁ m n e a v =
     let l : length (row m) ≡ length m + 4 = length-row m in
     let s : length q₁ ≡ length q = v.moved.left.size in
     let o = pushing q₁ (row m) (v.moved.left.fine 0 a.fine) (v.moved.same_flag ∙ a.flag-clear) (omega arith) in

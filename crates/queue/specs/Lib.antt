@@ -3,4 +3,5 @@ pub mod Meaning
 pub mod Region
 pub mod Post
 pub mod Parts
+pub mod Owed
 pub mod Examples

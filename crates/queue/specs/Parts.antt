@@ -29,9 +29,8 @@ pub record Making (n : ℕ) (q q' : Bytes) : Type 0 where
   pub moved : Moving q q'
   pub enough : 16 + pending_end q' + (4 + n) ≤ length q
 
--- the region has room for the message m of n bytes behind what is pending
-pub record Writable (m : Bytes) (n : ℕ) (q : Bytes) : Type 0 where
-  pub count : n ≡ length m
+-- the region has room for a message of n bytes behind what is pending
+pub record Writable (n : ℕ) (q : Bytes) : Type 0 where
   pub narrow : length q < 4294967296
   pub enough : 16 + pending_end q + (4 + n) ≤ length q
 
@@ -39,9 +38,8 @@ pub record Writable (m : Bytes) (n : ℕ) (q : Bytes) : Type 0 where
 unfoldable pub pushed : Bytes → Bytes → Bytes
 pushed r q = sets (sets q (16 + pending_end q) r) 8 (big_endian 4 (pending_end q + length r))
 
--- the message m of n bytes fits in Q beside what is queued and pending
-pub record Appendable (m : Bytes) (n : ℕ) (q : Bytes) : Type 0 where
-  pub count : n ≡ length m
+-- a message of n bytes fits in Q beside what is queued and pending
+pub record Appendable (n : ℕ) (q : Bytes) : Type 0 where
   pub fine : InStep 0 q
   pub flag-clear : flag q ≡ 0
   pub enough : pending_end q + (4 + n) ≤ head q + room q

@@ -9,8 +9,10 @@
 // A function that writes promises the region's length, its rule and its meaning. Where the messages
 // stand in the room, and what its other bytes hold, is left open. Internal layer: what a function
 // requires is its callers' to show.
+// Kept: a `requires` states the rule, as no ghost field stands beside the `&mut` of a region.
 #![tactic(auto)]
 
+mod outgoing;
 mod owing;
 mod region;
 mod taking;

@@ -1,17 +1,21 @@
 // What a step owes a client: messages become pending one by one, and at its end they are all
 // queued, or none is and the client is shut. Each costs the message and not the queue.
 ghost use Rattle.std.specs.Prelude.{◌≡◌, false, ◌+◌, ◌≤◌, length};
+ghost use Rattle.std.specs.Int.{from_bool};
 ghost use Rattle.message.specs.Forms.{written};
 ghost use Rattle.message.specs.Writing.{said};
 ghost use Rattle.queue.specs.Rows.{row};
+ghost use Rattle.queue.specs.Owed.{encoded};
 ghost use Rattle.queue.specs.Meaning.{is_overflown, error_fits};
 ghost use Rattle.queue.specs.Region.{InStep, AtRest, head, pending_end, room, pending_of, queue_of};
 ghost use Rattle.queue.specs.Post.{Owing, Settling, PuttingError};
 ghost use Rattle.queue.specs.Parts.{has_room, Gathering, Making};
 ghost use Rattle.queue.specs.Parts.{Writable, pushed, Appendable, Appending, Dropping};
 
+use crate::outgoing::Owed;
+use crate::region::{END, FLAG, HEAD, Header, TAIL};
 use message::{Message, write, written_length};
-use octets::{move_down, put_u32, u32_at};
+use octets::{move_bytes, put_number};
 use protocol::{Kind, Refusal};
 
 // Whether the running step owes the client more than fits.
@@ -19,7 +23,7 @@ pub fn is_overflown(q: &[u8]) -> bool
     requires { 16 ≤ length q.now }
     ensures { result ≡ is_overflown (pending_of q.now) }
 {
-    u32_at(q, 12) != 0
+    Header::of(q).overflown
 }
 
 // Whether a message of n bytes fits beside what is queued and pending, with 64 of Q kept back.
@@ -27,15 +31,9 @@ fn has_room(q: &[u8], n: usize) -> bool
     requires { InStep 64 q.now }
     ensures { result ≡ has_room n q.now }
 {
-    let used = u32_at(q, 8) - u32_at(q, 0);
-    let left = (q.len() - 16) / 2 - used;
-    if left < 68 {
-        return false;
-    }
-    if left - 68 < n {
-        return false;
-    }
-    true
+    let Header { head, end, .. } = Header::of(q);
+    let left = (q.len() - 16) / 2 - (end - head);
+    68 <= left && n <= left - 68
 }
 
 // Moves what is queued and pending to the front of the room. What stands behind it is left open.
@@ -43,13 +41,16 @@ fn gather(q: &mut [u8])
     requires { InStep 0 q.old }
     ensures { Gathering q.old q.new }
 {
-    let head = u32_at(&q[..], 0);
-    let tail = u32_at(&q[..], 4);
-    let end = u32_at(&q[..], 8);
-    move_down(q, 16 + head, end - head, head);
-    put_u32(q, 0, 0);
-    put_u32(q, 4, tail - head);
-    put_u32(q, 8, end - head);
+    let Header {
+        head,
+        tail,
+        end,
+        ..
+    } = Header::of(q);
+    move_bytes(q, 16 + head, end - head, 16);
+    put_number::<4>(q, HEAD, 0);
+    put_number::<4>(q, TAIL, tail - head);
+    put_number::<4>(q, END, end - head);
 }
 
 // Makes room behind what is pending for a message of n bytes that fits in Q. It gathers only where
@@ -59,47 +60,40 @@ fn make_room(q: &mut [u8], n: usize)
         × (pending_end q.old + (4 + n) ≤ head q.old + room q.old) }
     ensures { Making n q.old q.new }
 {
-    let end = u32_at(&q[..], 8);
-    if q.len() - 16 - end < 4 + n {
+    if q.len() - 16 - Header::of(q).end < 4 + n {
         gather(q);
     }
 }
 
-// Writes a message of n bytes behind what is pending, where there is room for it.
-fn push(q: &mut [u8], kind: Kind, message: Message, body: &[u8], n: usize)
-    requires { (Writable (written kind (said message body.now)) n q.old)
-        × (length body.now ≤ 65535) }
-    ensures { q.new
-        ≡ pushed (row (written kind (said message body.now))) q.old }
+// Writes a message behind what is pending, where there is room for it.
+fn push(q: &mut [u8], m: Owed)
+    requires { Writable m.len q.old }
+    ensures { q.new ≡ pushed (row (encoded m.entry)) q.old }
 {
-    let end = u32_at(&q[..], 8);
-    let at = 16 + end;
-    let from = at + 4;
-    let to = from + n;
-    put_u32(q, at, n);
-    write(kind, message, body, &mut q[from..to]);
-    put_u32(q, 8, end + 4 + n);
+    let end = Header::of(q).end;
+    let from = 20 + end;
+    put_number::<4>(q, 16 + end, m.len);
+    let _ = write(m.kind, m.message, m.body, &mut q[from..from + m.len]);
+    put_number::<4>(q, END, end + 4 + m.len);
 }
 
-// Adds a message of n bytes, which fits in Q, to what is pending.
-fn append(q: &mut [u8], kind: Kind, message: Message, body: &[u8], n: usize)
-    requires { (Appendable (written kind (said message body.now)) n q.old)
-        × (length body.now ≤ 65535) }
-    ensures { Appending (written kind (said message body.now)) n
-        q.old q.new }
+// Adds a message, which fits in Q, to what is pending.
+fn append(q: &mut [u8], m: Owed)
+    requires { Appendable m.len q.old }
+    ensures { Appending (encoded m.entry) m.entry.len q.old q.new }
 {
-    make_room(q, n);
-    push(q, kind, message, body, n);
+    make_room(q, m.len);
+    push(q, m);
 }
 
-// Drops what is pending, and sets the overflow flag to 0 or 1.
-fn drop_pending(q: &mut [u8], flag: usize)
-    requires { (InStep 0 q.old) × (flag ≤ 1) }
-    ensures { Dropping flag q.old q.new }
+// Drops what is pending, and sets whether the step has overflown.
+fn drop_pending(q: &mut [u8], overflown: bool)
+    requires { InStep 0 q.old }
+    ensures { Dropping (from_bool overflown) q.old q.new }
 {
-    let end = u32_at(&q[..], 4);
-    put_u32(q, 8, end);
-    put_u32(q, 12, flag);
+    let end = Header::of(q).tail;
+    put_number::<4>(q, END, end);
+    put_number::<4>(q, FLAG, usize::from(overflown));
 }
 
 // Owes the client a message. If it fits in Q - 64 beside what is queued and pending, it is pending
@@ -110,14 +104,14 @@ pub fn owe(q: &mut [u8], kind: Kind, message: Message, body: &[u8])
     ensures { Owing (written kind (said message body.now))
         q.old q.new }
 {
-    if is_overflown(&q[..]) {
+    if is_overflown(q) {
         return;
     }
-    let n = written_length(kind, message, body);
-    if has_room(&q[..], n) {
-        append(q, kind, message, body, n);
+    let m = Owed::new(kind, message, body);
+    if has_room(q, m.len) {
+        append(q, m);
     } else {
-        drop_pending(q, 1);
+        drop_pending(q, true);
     }
 }
 
@@ -126,8 +120,8 @@ pub fn settle(q: &mut [u8])
     requires { (InStep 0 q.old) × (is_overflown (pending_of q.old) ≡ false) }
     ensures { Settling q.old q.new }
 {
-    let end = u32_at(&q[..], 8);
-    put_u32(q, 4, end);
+    let end = Header::of(q).end;
+    put_number::<4>(q, TAIL, end);
 }
 
 // Whether the ERROR of a refusal fits in Q - 64 beside what is queued.
@@ -144,8 +138,8 @@ pub fn put_error(q: &mut [u8], kind: Kind, refusal: Refusal)
     requires { InStep 64 q.old }
     ensures { PuttingError kind refusal q.old q.new }
 {
-    let n = written_length(kind, Message::Error(refusal), b"");
-    drop_pending(q, 0);
-    append(q, kind, Message::Error(refusal), b"", n);
+    let m = Owed::new(kind, Message::Error(refusal), b"");
+    drop_pending(q, false);
+    append(q, m);
     settle(q);
 }

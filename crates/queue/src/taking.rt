@@ -5,29 +5,30 @@ ghost use Rattle.queue.specs.Rows.{is_empty, first_length};
 ghost use Rattle.queue.specs.Region.{AtRest, queued_of};
 ghost use Rattle.queue.specs.Post.{Removing, Copying, Taking};
 
-use crate::region::clear;
-use octets::{copy, min, put_u32, u32_at};
+use crate::region::{HEAD, Header, clear};
+use octets::{copy, number_at, put_number};
 
 // Whether no message is queued.
 pub fn is_empty(q: &[u8]) -> bool
     requires { AtRest 0 q.now }
     ensures { result ≡ is_empty (queued_of q.now) }
 {
-    u32_at(q, 0) == u32_at(q, 4)
+    let Header { head, tail, .. } = Header::of(q);
+    head == tail
 }
 
 // The length of the first message.
+// Kept: the definition `first_length` has 0 for an empty queue.
 pub fn first_length(q: &[u8]) -> usize
     requires { AtRest 0 q.now }
     ensures { result ≡ first_length (queued_of q.now) }
 {
-    let head = u32_at(q, 0);
-    let queued = u32_at(q, 4) - head;
+    let Header { head, tail, .. } = Header::of(q);
+    let queued = tail - head;
     if queued < 4 {
         return 0;
     }
-    let at = 16 + head;
-    min(u32_at(q, at), queued - 4)
+    number_at::<4>(q, 16 + head).min(queued - 4)
 }
 
 // Copies the first message to the front of out, as far as out goes, and gives its length.
@@ -39,7 +40,7 @@ fn copy_first(q: &[u8], out: &mut [u8]) -> usize
     if n == 0 {
         return 0;
     }
-    let at = 20 + u32_at(q, 0);
+    let at = 20 + Header::of(q).head;
     copy(out, 0, &q[at..at + n]);
     n
 }
@@ -49,12 +50,11 @@ fn drop_first(q: &mut [u8], n: usize)
     requires { (AtRest 0 q.old) × (n ≡ first_length (queued_of q.old)) }
     ensures { Removing q.old q.new }
 {
-    let head = u32_at(&q[..], 0);
-    let queued = u32_at(&q[..], 4) - head;
-    if queued <= 4 + n {
+    let Header { head, tail, .. } = Header::of(q);
+    if tail - head <= 4 + n {
         clear(q);
     } else {
-        put_u32(q, 0, head + 4 + n);
+        put_number::<4>(q, HEAD, head + 4 + n);
     }
 }
 
@@ -66,7 +66,7 @@ pub fn take(q: &mut [u8], out: &mut [u8]) -> usize
     ensures { Taking q.old out.old result
         q.new out.new }
 {
-    let n = copy_first(&q[..], out);
+    let n = copy_first(q, out);
     drop_first(q, n);
     n
 }

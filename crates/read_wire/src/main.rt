@@ -6,124 +6,65 @@
 // Every other line is printed, and below it, for each message: how the client speaks, the bytes
 // consumed, and the command with its fields, or `blank`, or `refused` and its number. A refused
 // client is read no further. `wait` tells how many bytes are no whole message yet.
+//
+// Kept: arrays hold the text, the inputs and lines: what is longer than its array is cut there.
 #![tactic(auto)]
 
-mod script;
 mod show;
 
-ghost use Rattle.std.specs.Prelude.{◌≤◌, length};
-
-use framing::kind_of;
 use protocol::Kind;
-use show::put;
 use std::io;
+
+// From here on the number of a run takes no further digit.
+const MOST: usize = 100000;
 
 // Shows the messages of an input one after the other.
 fn show_stream(rt: &impl Print, input: &[u8], buf: &mut [u8]) -> io::Result<()> {
-    let mut at = 0;
+    let mut rest = input;
     let mut kind = Kind::Stream;
-    while at < input.len() {
-        let rest = &input[at..];
+    while !rest.is_empty() {
         let m = wire::cut(kind, rest);
-        let n = m.len();
-        if n == 0 {
+        if m.is_empty() {
             return show::wait(rt, rest.len());
         }
-        let next = kind_of(kind, rest);
-        let good = show::message(rt, next, m, buf)?;
-        if good {
-            kind = next;
-            if n <= input.len() - at {
-                at += n;
-            } else {
-                return Ok(());
-            }
-        } else {
+        kind = framing::kind_of(kind, rest);
+        if !show::message(rt, kind, m, buf)? {
             return Ok(());
         }
+        rest = octets::tail(rest, m.len());
     }
     Ok(())
 }
 
-// Shows the first n bytes of an input: one packet, or a stream.
-fn show_front(
-    rt: &impl Print,
-    packet: bool,
-    input: &[u8],
-    n: usize,
-    buf: &mut [u8],
-) -> io::Result<()>
-    requires { n ≤ length input.now }
-{
-    let front = &input[..n];
-    if packet {
-        show::message(rt, Kind::Packets, front, buf)?;
-        Ok(())
-    } else {
-        show_stream(rt, front, buf)
-    }
-}
-
-// Shows the input that s stands for.
+// Shows the input that s stands for: one packet, or a stream.
 fn show_input(rt: &impl Print, packet: bool, s: &[u8]) -> io::Result<()> {
-    let mut input = [0u8; 300000];
+    let mut bytes = [0u8; 300000];
     let mut buf = [0u8; 262152];
-    let n = script::expand(s, &mut input);
-    show_front(rt, packet, &input, n, &mut buf)
-}
-
-// Shows one client, whose line begins with the digit of its form and a space.
-fn show_client(rt: &impl Print, line: &[u8]) -> io::Result<()> {
-    put(rt, line)?;
-    put(rt, b"\n")?;
-    if line.len() < 2 {
+    let n = input::expand::<MOST>(s, &mut bytes);
+    if packet {
+        show::message(rt, Kind::Packets, &bytes[..n], &mut buf)?;
         return Ok(());
     }
-    let first = line[0];
-    show_input(rt, first == b'0', &line[2..])
+    show_stream(rt, &bytes[..n], &mut buf)
 }
 
-// Shows a line of the input: a client, or a comment.
+// Shows a line of the input: a comment, or a client, whose line begins with the digit of its form
+// and a space.
 fn show_line(rt: &impl Print, line: &[u8]) -> io::Result<()> {
-    if line.len() == 0 {
-        return put(rt, b"\n");
+    rt.write_all(line)?;
+    print!(rt; "\n")?;
+    match line {
+        [b'#', ..] => Ok(()),
+        [form, _, s @ ..] => show_input(rt, *form == b'0', s),
+        _ => Ok(()),
     }
-    if line[0] == b'#' {
-        put(rt, line)?;
-        put(rt, b"\n")
-    } else {
-        show_client(rt, line)
-    }
-}
-
-// Where the line that begins at `at` ends.
-fn line_end(text: &[u8], at: usize) -> usize
-    requires { at ≤ length text.now }
-    ensures { (at ≤ result) × (result ≤ length text.now) }
-{
-    let mut i = at;
-    while i < text.len() {
-        if text[i] == b'\n' {
-            return i;
-        }
-        i += 1;
-    }
-    i
-}
-
-// Shows each line of the text.
-fn show_lines(rt: &impl Print, text: &[u8]) -> io::Result<()> {
-    let mut i = 0;
-    while i < text.len() {
-        let e = line_end(text, i);
-        show_line(rt, &text[i..e])?;
-        i = e + 1;
-    }
-    Ok(())
 }
 
 fn main(rt: HostRuntime) -> io::Result<()> {
     let mut text = [0u8; 65536];
     let n = input::read_full(&mut rt.reader(), &mut text)?;
-    show_lines(&rt, &text[..n])
+    for line in text[..n].split_inclusive(|&b| b == b'\n') {
+        show_line(&rt, input::without_end(line))?;
+    }
+    Ok(())
 }

@@ -1,14 +1,14 @@
 -- The laws of rows: the row in front, a row as it is written, rows behind rows, and what their actions charge.
 use mathlib.Core.Path.{◌≡◌, refl, sym, ap, ◌∙◌}
 use mathlib.Core.List.{List, [], ◌∷◌, ◌++◌}
-use mathlib.Core.Bool.{true, ◌&&◌, ◌||◌}
+use mathlib.Core.Bool.{true, false, ◌&&◌, ◌||◌, true≢false}
 use Prim.Native.Nat.{ℕ, zero, suc, ◌+◌, ◌^◌, ◌≤◌, ◌<◌}
 use native.Mathlib.Nat.{zero-add, suc-add, add_comm, sub_self}
 use native.Mathlib.Omega.{arith}
 use lib.Dec.{eqb, leb}
 use lib.ListN.{length, take, drop, get_or, length-append, length-drop, get_or-append}
 use lib.Seq.{drop-append-le, drop_at, take-length}
-use borrow.Author.Tests.{eqb-true, leb-true, le-leb}
+use borrow.Author.Tests.{eqb-true, leb-true, leb-false, le-leb, lt-leb, ne_eqb}
 use Rattle.octets.specs.Octets.{Bytes}
 use Rattle.octets.specs.Part.{part}
 use Rattle.octets.specs.Number.{number_at, big_endian}
@@ -146,6 +146,23 @@ action_fine-short id n h =
     either (eqb id 1 || eqb id 2)
     (λ t. let k : n ≤ 255 = leb-true n 255 (rw t at h) in omega arith)
     (λ t. leb-true n 65535 (and_both (leb id 4 || eqb id 7) (leb n 65535) (rw t at h)).1)
+
+pub action_fine-unknown : (id n : ℕ) → 8 ≤ id → action_fine id n ≡ false
+unfolding action_fine
+action_fine-unknown id n h =
+    let l : 4 < id = omega arith in
+    rw (
+      ne_eqb id 1 (λ e. omega arith),
+      ne_eqb id 2 (λ e. omega arith),
+      lt-leb id 4 l,
+      ne_eqb id 7 (λ e. omega arith),
+    )
+
+pub action_fine-known : (id n : ℕ) → action_fine id n ≡ true → id ≤ 7
+action_fine-known id n h =
+    either (leb id 7)
+    (λ t. leb-true id 7 t)
+    (λ t. absurd (true≢false (sym h ∙ action_fine-unknown id n (leb-false id 7 t))))
 
 module _ (id : ℕ) (p : Bytes) (h : action_fine id (length p) ≡ true) where
   pub length-row_of : length (row_of id p) ≡ 4 + length p

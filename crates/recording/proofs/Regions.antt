@@ -9,13 +9,19 @@ use lib.Dec.{eqb, leb}
 use lib.ListN.{length, length-append}
 use borrow.Author.Tests.{eqb-true, leb-true, leb-false, le-leb, lt-leb}
 use Rattle.octets.specs.Octets.{Bytes}
+use Rattle.octets.specs.Number.{number_at}
 use Rattle.octets.proofs.Parts.{length_part}
 use Rattle.protocol.specs.Terms.{Action, payload}
 use Rattle.model.specs.State.{is_on, is_spoiled, actions_in, recording_charge, recording_fits}
 use Rattle.recording.specs.Encoding.{actions_from, rows_fine}
 use Rattle.recording.specs.Region.{state_of, used_of, count_of, room_of, rows_of, recorded, transaction_in}
 use Rattle.recording.specs.Region.{transaction_of, sized, state_fine, recording_fine}
+use Rattle.recording.specs.States.{number_of}
 use Rattle.recording.specs.Promises.{Fits}
+use denote.Enum.Bare.{sameb}
+use Rattle.recording.specs.contracts.State.{the_type}
+use Rattle.recording.specs.declared.State.{State}
+use Rattle.recording.specs.declared.State.TheVariants.{Off, On, Spoiled}
 use Rattle.recording.proofs.Tests.{either, and_both, and-true-true}
 use Rattle.recording.proofs.Packed.{length-actions_from, recording_charge-actions_from}
 
@@ -60,6 +66,12 @@ rules-fine {r} w =
     (and-true-true (le-leb (count_of r) 64 w.few)
     (and-true-true w.state w.rows)))
 
+pub fine_head : (r : Bytes) → recording_fine r ≡ true → 12 ≤ length r
+fine_head r h = (fine-rules h).head
+
+pub sized_head : (r : Bytes) → sized r ≡ true → 12 ≤ length r
+sized_head r h = (sized-bounds r h).0
+
 pub length-rows_of : {r : Bytes} → Rules r → length (rows_of r) ≡ used_of r
 unfolding rows_of
 length-rows_of {r} w = length_part r 12 (used_of r) (omega (arith, w.used, w.head))
@@ -76,17 +88,33 @@ pub count-recorded : (r : Bytes) → count_of r ≡ length (recorded r)
 unfolding recorded
 count-recorded r = sym (length-actions_from (count_of r) (rows_of r))
 
-pub is_on-state : (state : ℕ) (xs : List Action) → is_on (transaction_in state xs) ≡ not (eqb state 0)
-unfolding transaction_in
-is_on-state state xs =
-    either (eqb state 0) (λ t. rw t) (λ t. rw t (either (eqb state 2) (λ u. rw u) (λ u. rw u)))
+pub few-recorded : (r : Bytes) → recording_fine r ≡ true → length (recorded r) ≤ 64
+few-recorded r h = omega (arith, count-recorded r, (fine-rules h).few)
 
-pub is_spoiled-state : (state : ℕ) (xs : List Action) → is_spoiled (transaction_in state xs) ≡ eqb state 2
+pub number-recorded : (r : Bytes) (n : ℕ) → n ≡ number_at 4 r 8 → n ≡ length (recorded r)
+unfolding count_of
+number-recorded r n e = e ∙ count-recorded r
+
+pub is_on-state : (s : State) (n : ℕ) (xs : List Action) → number_of s ≡ n
+    → not (sameb the_type s Off) ≡ is_on (transaction_in n xs)
 unfolding transaction_in
-is_spoiled-state state xs =
-    either (eqb state 0)
-    (λ t. rw (eqb-true state 0 t))
-    (λ t. rw t (either (eqb state 2) (λ u. rw u) (λ u. rw u)))
+is_on-state Off n xs e = rw (← e)
+is_on-state On n xs e = rw (← e)
+is_on-state Spoiled n xs e = rw (← e)
+
+pub is_spoiled-state : (s : State) (n : ℕ) (xs : List Action) → number_of s ≡ n
+    → sameb the_type s Spoiled ≡ is_spoiled (transaction_in n xs)
+unfolding transaction_in
+is_spoiled-state Off n xs e = rw (← e)
+is_spoiled-state On n xs e = rw (← e)
+is_spoiled-state Spoiled n xs e = rw (← e)
+
+pub state-known : (r : Bytes) → recording_fine r ≡ true → state_of r ≤ 2
+unfolding state_fine
+state-known r h =
+    either (eqb (state_of r) 1)
+    (λ e. omega (arith, eqb-true (state_of r) 1 e))
+    (λ e. leb-true (state_of r) 2 (and_both (leb (state_of r) 2) _ (rw e at (fine-rules h).state)).0)
 
 -- a state beside which no action is held
 none-counted : (state n : ℕ) → state_fine state n ≡ true → eqb state 1 ≡ false → n ≡ 0
@@ -153,5 +181,8 @@ module _ (r : Bytes) (n : ℕ) (h : recording_fine r ≡ true) where
       (λ t. let g : length r - 12 < used_of r + (n + 4) = omega (arith, leb-false n (length r - (16 + used_of r)) t) in
       rw t (rw (lt-leb (used_of r + (n + 4)) (length r - 12) g) at (fits-few k)))
 
--- what decides whether one more fits
-pub ruleset fits_tests = (fits-many, fits-full, fits-room)
+-- what the test of one more rests on
+pub ruleset fits_tests = (fine_head, few-recorded)
+
+-- what the readers of the header rest on
+pub ruleset readers = (fine_head, number-recorded, state-known, is_on-state, is_spoiled-state)

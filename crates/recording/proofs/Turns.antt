@@ -1,86 +1,100 @@
 -- The look-up's loop: one turn of it, one row, and what it gives in the end.
 use mathlib.Core.Path.{◌≡◌, refl, sym, ap, ◌∙◌}
 use mathlib.Core.List.{[]}
-use mathlib.Core.Bool.{true, false, cond}
+use mathlib.Core.Bool.{true, false, not, cond}
 use mathlib.Core.Option.{Option, some, none}
 use Prim.Native.Nat.{ℕ, zero, suc, ◌+◌, ◌-◌, ◌≤◌, ◌<◌}
 use native.Mathlib.Nat.{sub-zero}
 use native.Mathlib.Omega.{arith}
-use lib.Dec.{eqb}
-use lib.ListN.{length, take, drop, get_or, length-drop}
+use lib.ListN.{length, take, drop, length-drop}
 use lib.Seq.{drop-drop}
 use borrow.Author.Tests.{ne_eqb}
+use denote.Bor.{Bor}
+use Rattle.std.specs.Prelude as Code
+use Rattle.std.specs.Option.{option_or, option_copied, unwrap_or}
 use Rattle.octets.specs.Octets.{Bytes, first_nul}
+use Rattle.octets.specs.Options.{in_code}
 use Rattle.octets.specs.Order.{same}
-use Rattle.octets.specs.Part.{part}
-use Rattle.octets.specs.Number.{number_at}
+use Rattle.protocol.specs.Terms.{Action, hello, sub, unsub, read, write, ping, action_id, payload}
+use denote.Enum.Bare.{sameb}
+use Rattle.protocol.specs.Ids.{id_of}
+use Rattle.protocol.specs.contracts.command_id.CommandId.{the_type}
+use Rattle.protocol.specs.declared.command_id.CommandId.{CommandId}
+use Rattle.protocol.specs.declared.command_id.CommandId.TheVariants.{Hello, Sub, Unsub, Read, Write, Begin, Commit, Ping}
 use Rattle.model.specs.Turn.{or_else, found_or}
-use Rattle.recording.specs.declared.turn.Row.{Row}
-use Rattle.recording.specs.Encoding.{write_from, action_of, row_size, action_at, rows_fine}
+use Rattle.recording.specs.Encoding.{key_in, write_from, action_of, row_size, action_at, rows_fine}
 use Rattle.recording.specs.Region.{count_of, rows_of}
-use Rattle.recording.specs.Turn.{body_for, last_body, actions_before, earlier, body_of}
-use Rattle.recording.specs.Promises.{RowAt, Until, Candidate, Latest, LastWrite}
-use Rattle.recording.proofs.Tests.{either}
+use Rattle.recording.specs.Turn.{body_for, last_body, actions_before, earlier}
+use Rattle.recording.specs.Promises.{RowAt, Until}
 use Rattle.recording.proofs.Encodings.{payload-write_from}
 use Rattle.recording.proofs.Packed.{first-row, other-rows, no_rows}
 use Rattle.recording.proofs.Regions.{fine-rules, length-rows_of}
-use Rattle.recording.proofs.Walks.{row_here}
+use Rattle.recording.proofs.Walks.{action_of-action_at}
 
 -- ---- the first of several
 
-or_else-none : {X : Type 0} (o : Option X) → or_else o none ≡ o
-or_else-none none = refl
-or_else-none (some x) = refl
+option_or-none : {X : Type 0} (o : Code.Option X) → option_or o Code.None ≡ o
+option_or-none Code.None = refl
+option_or-none (Code.Some x) = refl
 
-or_else-assoc : {X : Type 0} (a b c : Option X) → or_else (or_else a b) c ≡ or_else a (or_else b c)
-or_else-assoc none b c = refl
-or_else-assoc (some x) b c = refl
+option_or-assoc : {X : Type 0} (a b c : Code.Option X) → option_or (option_or a b) c ≡ option_or a (option_or b c)
+option_or-assoc Code.None b c = refl
+option_or-assoc (Code.Some x) b c = refl
+
+in_code-or_else : {X : Type 0} (a b : Option X) → in_code (or_else a b) ≡ option_or (in_code a) (in_code b)
+in_code-or_else none b = refl
+in_code-or_else (some x) b = refl
+
+pub option_copied-or : {X : Type 0} (a b : Code.Option (Bor X))
+    → option_copied (option_or a b) ≡ option_or (option_copied a) (option_copied b)
+option_copied-or Code.None b = refl
+option_copied-or (Code.Some x) b = refl
 
 -- ---- the look-up's loop
 
--- the loop stands at an offset: w names what was found before it
-pub record Looked (r k : Bytes) (until at : ℕ) (w : Row) : Type 0 where
+-- the loop stands at an offset: f is what was found before it
+pub record Looked (r k : Bytes) (until at : ℕ) (f : Code.Option Bytes) : Type 0 where
   pub rest : ℕ
   pub rows : rows_fine rest (drop at (rows_of r)) ≡ true
-  pub value : last_body k (earlier r until)
-      ≡ or_else (last_body k (actions_before rest (until - at) (drop at (rows_of r)))) (body_of r w)
-  pub within : w.at + w.len ≤ length r
+  pub value : in_code (last_body k (earlier r until))
+      ≡ option_or (in_code (last_body k (actions_before rest (until - at) (drop at (rows_of r))))) f
 
-pub look-start : (r k : Bytes) (until : ℕ) → Until r until
-    → Looked r k until 0 (record { found = false; at = 0; len = 0 })
-unfolding earlier body_of
+pub look-start : (r k : Bytes) (until : ℕ) → Until r until → Looked r k until 0 Code.None
+unfolding earlier
 look-start r k until h =
     let m = fine-rules h.fine in
     record {
       rest = count_of r;
       rows = m.rows;
-      value = rw (sub-zero until) (sym (or_else-none (last_body k (actions_before (count_of r) until (rows_of r)))));
-      within = omega arith;
+      value = rw (sub-zero until)
+          (sym (option_or-none (in_code (last_body k (actions_before (count_of r) until (rows_of r))))));
     }
 
-module _ (r k : Bytes) (until at : ℕ) (w : Row) (g : Until r until) (l : at < until) where
+module _ (r k : Bytes) (until at : ℕ) (f : Code.Option Bytes) (g : Until r until) (l : at < until) where
   look-some : (n : ℕ) → rows_fine n (drop at (rows_of r)) ≡ true → n ≡ 0 → ⊥
   look-some n h e =
       let m = fine-rules g.fine in
       let z : length (drop at (rows_of r)) ≡ 0 = no_rows (drop at (rows_of r)) (rw e at h) in
       omega (arith, g.within, length-drop at (rows_of r), length-rows_of m)
 
-  pub look-row : Looked r k until at w → RowAt r at
+  pub look-row : Looked r k until at f → RowAt r at
   look-row h = go h.rest h.rows
     where
       go : (n : ℕ) → rows_fine n (drop at (rows_of r)) ≡ true → RowAt r at
       go zero e = absurd (look-some zero e refl)
       go (suc n) e = record { fine = g.fine; here = first-row n (drop at (rows_of r)) e }
 
-  pub look-next : Looked r k until at w → (v : Row) → Latest r at k w v
-      → Looked r k until (at + row_size (drop at (rows_of r))) v
+  pub look-next : Looked r k until at f
+      → Looked r k until (at + row_size (drop at (rows_of r)))
+      (option_or (in_code (body_for k (action_at (drop at (rows_of r))))) f)
   unfolding actions_before last_body
-  look-next h v f = go h.rest h.rows h.value
+  look-next h = go h.rest h.rows h.value
     where
       go : (n : ℕ) → rows_fine n (drop at (rows_of r)) ≡ true
-          → last_body k (earlier r until)
-          ≡ or_else (last_body k (actions_before n (until - at) (drop at (rows_of r)))) (body_of r w)
-          → Looked r k until (at + row_size (drop at (rows_of r))) v
+          → in_code (last_body k (earlier r until))
+          ≡ option_or (in_code (last_body k (actions_before n (until - at) (drop at (rows_of r))))) f
+          → Looked r k until (at + row_size (drop at (rows_of r)))
+          (option_or (in_code (body_for k (action_at (drop at (rows_of r))))) f)
       go zero e q = absurd (look-some zero e refl)
       go (suc n) e q =
           let s : Bytes = drop at (rows_of r) in
@@ -88,80 +102,74 @@ module _ (r k : Bytes) (until at : ℕ) (w : Row) (g : Until r until) (l : at < 
           let d : drop (row_size s) s ≡ drop (at + row_size s) (rows_of r) = drop-drop (row_size s) at (rows_of r) in
           let u : until - at - row_size s ≡ until - (at + row_size s) = omega arith in
           let xs : Option Bytes = last_body k (actions_before n (until - at - row_size s) (drop (row_size s) s)) in
-          let q₁ : last_body k (earlier r until) ≡ or_else (or_else xs (body_for k (action_at s))) (body_of r w) =
+          let b : Option Bytes = body_for k (action_at s) in
+          let q₁ : in_code (last_body k (earlier r until)) ≡ option_or (in_code (or_else xs b)) f =
           rw (ne_eqb (until - at) 0 ne) at q in
-          let q₂ : last_body k (earlier r until) ≡ or_else xs (body_of r v) =
-          q₁ ∙ or_else-assoc xs (body_for k (action_at s)) (body_of r w) ∙ ap (or_else xs) (sym f.value) in
-          record { rest = n; rows = rw d at (other-rows n s e); value = rw (u, d) at q₂; within = f.within }
+          let q₂ : in_code (last_body k (earlier r until)) ≡ option_or (in_code xs) (option_or (in_code b) f) =
+          q₁ ∙ ap (λ (o : Code.Option Bytes). option_or o f) (in_code-or_else xs b)
+          ∙ option_or-assoc (in_code xs) (in_code b) f in
+          record { rest = n; rows = rw d at (other-rows n s e); value = rw (u, d) at q₂ }
 
 none_before : (n : ℕ) (s : Bytes) → actions_before n 0 s ≡ []
 unfolding actions_before
 none_before zero s = refl
 none_before (suc n) s = refl
 
-pub look-end : (r k : Bytes) (until at : ℕ) (w : Row) → until ≤ at → Looked r k until at w → LastWrite r until k w
+pub look-end : (r k : Bytes) (until at : ℕ) (f : Code.Option Bytes) → until ≤ at → Looked r k until at f
+    → f ≡ in_code (last_body k (earlier r until))
 unfolding last_body
-look-end r k until at w l h =
+look-end r k until at f l h =
     let z : until - at ≡ 0 = omega arith in
-    record { value = sym (h.value ∙ rw (z, none_before h.rest (drop at (rows_of r)))); within = h.within }
+    sym (h.value ∙ rw (z, none_before h.rest (drop at (rows_of r))))
 
 -- ---- one row
 
-body_for-other : (k : Bytes) (id : ℕ) (p : Bytes) → (id ≡ 4 → ⊥) → body_for k (action_of id p) ≡ none
-unfolding body_for action_of
-body_for-other k id p ne =
-    either (eqb id 0) (λ t. rw t) (λ t₀.
-    either (eqb id 1) (λ t. rw (t₀, t)) (λ t₁.
-    either (eqb id 2) (λ t. rw (t₀, t₁, t)) (λ t₂.
-    either (eqb id 3) (λ t. rw (t₀, t₁, t₂, t)) (λ t₃. rw (t₀, t₁, t₂, t₃, ne_eqb id 4 ne)))))
+pub is_write : (c : CommandId) → false ≡ not (sameb the_type c Write) → id_of c ≡ 4
+is_write Hello e = cc
+is_write Sub e = cc
+is_write Unsub e = cc
+is_write Read e = cc
+is_write Write e = refl
+is_write Begin e = cc
+is_write Commit e = cc
+is_write Ping e = cc
 
-body_for-write : (k : Bytes) (id : ℕ) (p : Bytes) → id ≡ 4
-    → body_for k (action_of id p) ≡ cond (same k (take (first_nul p) p)) (some p) none
+pub is_other : (c : CommandId) → true ≡ not (sameb the_type c Write) → id_of c ≡ 4 → ⊥
+is_other Hello e = λ n. omega arith
+is_other Sub e = λ n. omega arith
+is_other Unsub e = λ n. omega arith
+is_other Read e = λ n. omega arith
+is_other Write e = cc
+is_other Begin e = λ n. omega arith
+is_other Commit e = λ n. omega arith
+is_other Ping e = λ n. omega arith
+
+pub body_for-other : (k : Bytes) (a : Action) → (action_id a ≡ 4 → ⊥) → body_for k a ≡ none
+unfolding body_for
+body_for-other k (hello t) ne = refl
+body_for-other k (sub p) ne = refl
+body_for-other k (unsub p) ne = refl
+body_for-other k (read x) ne = refl
+body_for-other k (write x v) ne = absurd (ne refl)
+body_for-other k (ping i) ne = refl
+
+body_for-action_of : (k : Bytes) (id : ℕ) (p : Bytes) → id ≡ 4
+    → body_for k (action_of id p) ≡ cond (same k (key_in p)) (some p) none
 unfolding body_for action_of write_from
-body_for-write k id p e =
+body_for-action_of k id p e =
     rw e (ap (λ (l : Bytes). cond (same k (take (first_nul p) p)) (some l) none) (payload-write_from p))
 
-module _ (r k : Bytes) (at n : ℕ) (w : Row) (h : Candidate r at n w) where
-  candidate : action_at (drop at (rows_of r)) ≡ action_of (get_or r (12 + at) 0) (part r (16 + at) n)
-  candidate =
-      let m = row_here r at h.row in
-      let e : number_at 3 r (13 + at) ≡ n = omega (arith, m.size, h.long) in
-      rw e at m.command
-
-  pub latest-other : (get_or r (12 + at) 0 ≡ 4 → ⊥) → Latest r at k w w
-  latest-other ne =
-      record {
-        value = rw (candidate, body_for-other k (get_or r (12 + at) 0) (part r (16 + at) n) ne);
-        within = h.within;
-      }
-
-  latest-write : get_or r (12 + at) 0 ≡ 4
-      → body_for k (action_at (drop at (rows_of r)))
-      ≡ cond (same k (take (first_nul (part r (16 + at) n)) (part r (16 + at) n))) (some (part r (16 + at) n)) none
-  latest-write e = rw candidate (body_for-write k (get_or r (12 + at) 0) (part r (16 + at) n) e)
-
-  pub latest-missed : get_or r (12 + at) 0 ≡ 4
-      → same k (take (first_nul (part r (16 + at) n)) (part r (16 + at) n)) ≡ false → Latest r at k w w
-  latest-missed e t = record { value = rw (latest-write e, t); within = h.within }
-
-  pub latest-found : get_or r (12 + at) 0 ≡ 4 → same k (take (first_nul (part r (16 + at) n)) (part r (16 + at) n)) ≡ true
-      → Latest r at k w (record { found = true; at = 16 + at; len = n })
-  unfolding body_of
-  latest-found e t =
-      let m = row_here r at h.row in
-      record { value = rw (latest-write e, t); within = omega (arith, m.bound, m.size, h.long) }
+pub body_for-write : (k s : Bytes) → action_id (action_at s) ≡ 4
+    → body_for k (action_at s) ≡ cond (same k (key_in (payload (action_at s)))) (some (payload (action_at s))) none
+body_for-write k s e =
+    ap (body_for k) (sym (action_of-action_at s))
+    ∙ body_for-action_of k (action_id (action_at s)) (payload (action_at s)) e
 
 -- ---- what the look-up gives
 
-module _ (r k b : Bytes) (until : ℕ) (w : Row) (h : LastWrite r until k w) where
-  pub turn-found : w.found ≡ true → part r w.at w.len ≡ found_or (last_body k (earlier r until)) b
-  unfolding body_of
-  turn-found t =
-      let e : some (part r w.at w.len) ≡ last_body k (earlier r until) = rw t at h.value in
-      rw (← e)
-
-  pub turn-missing : w.found ≡ false → b ≡ found_or (last_body k (earlier r until)) b
-  unfolding body_of
-  turn-missing t =
-      let e : none ≡ last_body k (earlier r until) = rw t at h.value in
-      rw (← e)
+pub unwrap_or-found : (o : Code.Option (Bor Bytes)) (b : Bor Bytes) (x : Option Bytes) → option_copied o ≡ in_code x
+    → (unwrap_or o b).now ≡ found_or x b.now
+unwrap_or-found Code.None b none e = refl
+unwrap_or-found Code.None b (some x) e = cc
+unwrap_or-found (Code.Some p) b none e = cc
+unwrap_or-found (Code.Some p) b (some x) e = cc

@@ -18,7 +18,7 @@ use Rattle.recording.specs.Region.{used_of, count_of, rows_of, recorded, recordi
 use Rattle.recording.specs.Turn.{earlier}
 use Rattle.recording.specs.Promises.{RowAt, Until}
 use Rattle.recording.proofs.Encodings.{payload-action_of, action_id-action_of, action_of-payload, reads_back-action_of}
-use Rattle.recording.proofs.Packed.{row_fine-whole, first-row}
+use Rattle.recording.proofs.Packed.{row_fine-whole, first-row, action_fine-known}
 use Rattle.recording.proofs.Offsets.{rows-from, get_d-actions_from, offset_of-within, offset_of-suc, offset_of-all}
 use Rattle.recording.proofs.Offsets.{actions_before-offset}
 use Rattle.recording.proofs.Regions.{fine-rules, length-rows_of, count-recorded}
@@ -32,6 +32,7 @@ pub record Here (r : Bytes) (at : ℕ) : Type 0 where
   pub command : action_at (drop at (rows_of r))
       ≡ action_of (get_or r (12 + at) 0) (part r (16 + at) (number_at 3 r (13 + at)))
   pub id : get_or r (12 + at) 0 ≡ action_id (action_at (drop at (rows_of r)))
+  pub known : get_or r (12 + at) 0 ≤ 7
   pub body : part r (16 + at) (number_at 3 r (13 + at)) ≡ payload (action_at (drop at (rows_of r)))
 
 pub row_here : (r : Bytes) (at : ℕ) → RowAt r at → Here r at
@@ -66,9 +67,35 @@ row_here r at h =
       command = rw (i, p);
       id = sym (action_id-action_of (get_or (drop at (rows_of r)) 0 0)
           (part (drop at (rows_of r)) 4 (number_at 3 (drop at (rows_of r)) 1)) _ w.known ∙ i);
+      known = rw i at (action_fine-known (get_or (drop at (rows_of r)) 0 0) _ w.known);
       body = sym (payload-action_of (get_or (drop at (rows_of r)) 0 0)
           (part (drop at (rows_of r)) 4 (number_at 3 (drop at (rows_of r)) 1)) ∙ p);
     }
+
+-- what the readers of a row rest on
+module _ (r : Bytes) (at : ℕ) (h : RowAt r at) where
+  pub row-bound : 16 + at + number_at 3 r (13 + at) ≤ length r
+  row-bound = (row_here r at h).bound
+
+  pub row-known : get_or r (12 + at) 0 ≤ 7
+  row-known = (row_here r at h).known
+
+  pub row-id : get_or r (12 + at) 0 ≡ action_id (action_at (drop at (rows_of r)))
+  row-id = (row_here r at h).id
+
+  pub row-length : 4 + number_at 3 r (13 + at) ≡ row_size (drop at (rows_of r))
+  row-length = (row_here r at h).size
+
+  pub row-head : 16 + at ≤ length r
+  row-head = omega (arith, (row_here r at h).bound)
+
+  pub row-body : (n : ℕ) → n ≡ number_at 3 r (13 + at)
+      → part r (16 + at) (16 + at + n - (16 + at)) ≡ payload (action_at (drop at (rows_of r)))
+  row-body n e =
+      let k : 16 + at + n - (16 + at) ≡ number_at 3 r (13 + at) = omega arith in
+      rw k (row_here r at h).body
+
+pub ruleset row_rules = (row-bound, row-head, row-known, row-id, row-length, row-body)
 
 -- the ID and the payload of a row are all of its action
 pub action_of-action_at : (s : Bytes)

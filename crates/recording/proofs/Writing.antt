@@ -16,7 +16,7 @@ use Rattle.octets.proofs.Laws.{sets-append}
 use Rattle.octets.proofs.Parts.{drop-sets, part-sets-end}
 use Rattle.octets.proofs.Numbers.{number_at-sets-same, number_at-sets-apart, length-big_endian}
 use Rattle.protocol.specs.Terms.{payload}
-use Rattle.model.specs.State.{begun, spoiled, is_on, after_slip}
+use Rattle.model.specs.State.{off, begun, is_on, after_slip}
 use Rattle.model.proofs.Transactions.{after_slip-on, after_slip-off}
 use Rattle.recording.specs.Encoding.{action_of, row_of, actions_from, rows_fine}
 use Rattle.recording.specs.Region.{state_of, used_of, count_of, room_of, rows_of, recorded, transaction_in}
@@ -26,7 +26,7 @@ use Rattle.recording.proofs.Tests.{and_both, and-true-true}
 use Rattle.recording.proofs.Encodings.{payload-action_of}
 use Rattle.recording.proofs.Packed.{rows_fine-append, actions_from-append, rows_fine-row_of, actions_from-row_of}
 use Rattle.recording.proofs.Packed.{length-row_of}
-use Rattle.recording.proofs.Regions.{sized-bounds, fine-rules, rules-fine, recording_fits-next}
+use Rattle.recording.proofs.Regions.{sized-bounds, fine-rules, rules-fine, recording_fits-next, fine_head, sized_head}
 
 -- ---- the header written
 
@@ -107,28 +107,38 @@ empty-header r s h k f =
     let b = sized-bounds r h in
     record { head = b.0; short = b.1; room = omega arith; few = omega arith; state = f; known = k; rows = refl }
 
-pub becomes-empty : (r : Bytes) (s : ℕ) → sized r ≡ true → s ≤ 2 → state_fine s 0 ≡ true
+becomes-empty : (r : Bytes) (s : ℕ) → sized r ≡ true → s ≤ 2 → state_fine s 0 ≡ true
     → Becomes (transaction_in s []) r (headed r s 0 0)
 unfolding actions_from
 becomes-empty r s h k f =
     let e = empty-header r s h k f in
     record { fine = headed-fine e; size = length-headed r s 0 0 e.head; holds = transaction_of-headed e }
 
--- ---- a slip
+-- ---- what a header without actions makes of the region
 
-module _ {r : Bytes} (h : recording_fine r ≡ true) where
-  spoiled-header : Becomes spoiled r (headed r 2 0 0)
+module _ (r r′ : Bytes) where
+  pub becomes-begun : sized r ≡ true → r′ ≡ headed r 1 0 0 → Becomes (begun []) r r′
+  unfolding transaction_in state_fine
+  becomes-begun h e = rw e (becomes-empty r 1 h (omega arith) refl)
+
+  pub becomes-off : sized r ≡ true → r′ ≡ headed r 0 0 0 → Becomes off r r′
+  unfolding transaction_in state_fine
+  becomes-off h e = rw e (becomes-empty r 0 h (omega arith) refl)
+
+  pub becomes-spoiled : recording_fine r ≡ true → is_on (transaction_of r) ≡ true → r′ ≡ headed r 2 0 0
+      → Becomes (after_slip (transaction_of r)) r r′
   unfolding transaction_in state_fine sized
-  spoiled-header =
+  becomes-spoiled h o e =
       let w = fine-rules h in
-      becomes-empty r 2 (and-true-true (le-leb 12 (length r) w.head) (le-leb (length r) 262156 w.short))
-      (omega arith) refl
+      rw (after_slip-on (transaction_of r) o, e)
+      (becomes-empty r 2 (and-true-true (le-leb 12 (length r) w.head) (le-leb (length r) 262156 w.short))
+      (omega arith) refl)
 
-  pub becomes-spoiled : is_on (transaction_of r) ≡ true → Becomes (after_slip (transaction_of r)) r (headed r 2 0 0)
-  becomes-spoiled e = rw (after_slip-on (transaction_of r) e) spoiled-header
+  pub becomes-same : recording_fine r ≡ true → is_on (transaction_of r) ≡ false → r′ ≡ r
+      → Becomes (after_slip (transaction_of r)) r r′
+  becomes-same h o e = rw (after_slip-off (transaction_of r) o, e) (record { fine = h; size = refl; holds = refl })
 
-  pub becomes-same : is_on (transaction_of r) ≡ false → Becomes (after_slip (transaction_of r)) r r
-  becomes-same e = rw (after_slip-off (transaction_of r) e) (record { fine = h; size = refl; holds = refl })
+pub ruleset headers = (fine_head, sized_head, becomes-begun, becomes-off, becomes-spoiled, becomes-same)
 
 -- ---- an action added
 

@@ -1,5 +1,6 @@
 pub mod Encoding
 pub mod Region
+pub mod States
 pub mod Turn
 pub mod Promises
 pub mod Examples

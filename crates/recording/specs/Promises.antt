@@ -1,15 +1,12 @@
 -- What the functions of this crate ask and ensure.
-use Rattle.std.specs.Prelude.{ℕ, ◌+◌, ◌≤◌, ◌≡◌, [], ◌∷◌, ◌++◌, Bool, true, length, drop}
+use Rattle.std.specs.Prelude.{ℕ, ◌≤◌, ◌≡◌, [], ◌∷◌, ◌++◌, Bool, true, length, drop}
 use Rattle.std.proofs.lemmas.List.Edits.{sets}
 use Rattle.octets.specs.Octets.{Bytes}
 use Rattle.octets.specs.Number.{big_endian}
 use Rattle.protocol.specs.Terms.{Action, payload}
 use Rattle.model.specs.State.{begun, Transaction, recording_fits}
-use Rattle.model.specs.Turn.{or_else}
-use Rattle.recording.specs.declared.turn.Row.{Row}
-use Rattle.recording.specs.Encoding.{action_of, action_fine, row_size, action_at, row_fine}
+use Rattle.recording.specs.Encoding.{action_of, action_fine, row_size, row_fine}
 use Rattle.recording.specs.Region.{used_of, rows_of, room_of, recorded, transaction_of, recording_fine}
-use Rattle.recording.specs.Turn.{body_for, last_body, earlier, body_of}
 
 -- an operation on the region r leaves r': a fine region of the same length that means m
 pub record Becomes (m : Transaction) (r r' : Bytes) : Type 0 where
@@ -35,6 +32,11 @@ pub record Addable (r : Bytes) (id : ℕ) (p : Bytes) : Type 0 where
   pub known : action_fine id (length p) ≡ true
   pub fits : recording_fits (room_of r) (recorded r ++ (action_of id p ∷ [])) ≡ true
 
+-- a whole row of an action stands in front, and the rest behind it
+pub record Passed (s behind : Bytes) : Type 0 where
+  pub fine : row_fine s ≡ true
+  pub rest : behind ≡ drop (row_size s) s
+
 -- a row of the recording begins at an offset of the room
 pub record RowAt (r : Bytes) (at : ℕ) : Type 0 where
   pub fine : recording_fine r ≡ true
@@ -44,19 +46,3 @@ pub record RowAt (r : Bytes) (at : ℕ) : Type 0 where
 pub record Until (r : Bytes) (until : ℕ) : Type 0 where
   pub fine : recording_fine r ≡ true
   pub within : until ≤ used_of r
-
--- the row at an offset, whose payload is n bytes long, and what was found before it
-pub record Candidate (r : Bytes) (at n : ℕ) (w : Row) : Type 0 where
-  pub row : RowAt r at
-  pub long : 4 + n ≡ row_size (drop at (rows_of r))
-  pub within : w.at + w.len ≤ length r
-
--- v names the payload at the offset if that is a WRITE of the key, or else what w names
-pub record Latest (r : Bytes) (at : ℕ) (k : Bytes) (w v : Row) : Type 0 where
-  pub value : body_of r v ≡ or_else (body_for k (action_at (drop at (rows_of r)))) (body_of r w)
-  pub within : v.at + v.len ≤ length r
-
--- w names the payload of the last WRITE of the key among the actions before the offset, if there is one
-pub record LastWrite (r : Bytes) (until : ℕ) (k : Bytes) (w : Row) : Type 0 where
-  pub value : body_of r w ≡ last_body k (earlier r until)
-  pub within : w.at + w.len ≤ length r

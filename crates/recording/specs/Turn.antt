@@ -6,10 +6,8 @@ use Rattle.std.specs.Prelude.{ℕ, zero, suc, ◌+◌, ◌-◌, List, [], ◌∷
 use Rattle.std.proofs.Math.Option.{Option, some, none}
 use Rattle.octets.specs.Octets.{Bytes}
 use Rattle.octets.specs.Order.{same}
-use Rattle.octets.specs.Part.{part}
 use Rattle.protocol.specs.Terms.{Action, hello, sub, unsub, read, write, ping, payload}
 use Rattle.model.specs.Turn.{or_else, found_or}
-use Rattle.recording.specs.declared.turn.Row.{Row}
 use Rattle.recording.specs.Encoding.{action_at, row_size}
 use Rattle.recording.specs.Region.{count_of, rows_of}
 
@@ -44,7 +42,3 @@ earlier r until = actions_before (count_of r) until (rows_of r)
 -- what an action at the offset finds: the payload of the last WRITE of the key before it, else the store's body b
 abbrev pub body_at_turn : Bytes → Bytes → ℕ → Bytes → Bytes
 body_at_turn k r until b = found_or (last_body k (earlier r until)) b
-
--- the bytes that a Row names: the payload of a WRITE, if one was found
-unfoldable pub body_of : Bytes → Row → Option Bytes
-body_of r w = cond w.found (some (part r w.at w.len)) none

@@ -1,29 +1,30 @@
 -- What stands at a place of a string, by the byte there, and runs of bytes that stand raw.
 use mathlib.Core.Path.{◌≡◌, refl, sym, ap, ◌∙◌}
 use mathlib.Core.List.{[], ◌∷◌, ◌++◌, append_assoc}
-use mathlib.Core.Bool.{Bool, true, false, cond, ◌||◌}
-use mathlib.Core.Option.{Option, none, some}
+use mathlib.Core.Bool.{Bool, true, false, cond, not, ◌||◌}
+use mathlib.Core.Option.{Option, some}
 use Prim.Native.Nat.{ℕ, suc, ◌+◌, ◌-◌, ◌≤◌, ◌<◌}
 use native.Mathlib.Numerals.{add-one}
 use native.Mathlib.Omega.{arith}
 use lib.Dec.{eqb}
 use lib.ListN.{length, get_or, take, drop, drop_of_length-le, length-drop, take-append-drop, length-append}
-use lib.Seq.{drop-cons, drop-drop, length-take-le, take-add}
+use lib.Seq.{drop-cons, drop-drop, get_or-drop, length-take-le, take-add, take-append_seam, drop-append_seam}
 use borrow.Author.Tests.{eq-eqb, ne_eqb}
+use Rattle.std.proofs.Common.{None, Some}
+use Rattle.std.specs.Option.{unwrap_or}
+use Rattle.std.specs.List.{position, position_or_len}
+use Rattle.std.proofs.lemmas.List.Sums.{prefix_len-le-length, passes_at_first}
 use Rattle.octets.specs.Octets.{Bytes, has_nul}
+use Rattle.octets.specs.Options.{in_code}
 use Rattle.octets.proofs.Laws.{sets-append}
 use Rattle.octets.proofs.Nul.{has_nul-append}
 use Rattle.text.specs.Fields.{octal, Scan, malformed, scanned, onto}
-use Rattle.text.specs.FieldPost.{octal_of, Place, CharAt}
-use Rattle.text.specs.declared.fields.Octal.{Octal}
-use Rattle.text.specs.declared.fields.Octal.TheVariants.{Byte as Byte₁, Bad as Bad₁}
-use Rattle.text.specs.declared.fields.Char.{Char}
-use Rattle.text.specs.declared.fields.Char.TheVariants.{Byte, Bad}
-use Rattle.text.proofs.ScanLaws.{ahead, four, octal-byte, octal-bad, Scanning}
+use Rattle.text.specs.FieldPost.{Place}
+use Rattle.text.proofs.ScanLaws.{ahead, four, tail-byte, behind, position-or, given_some, given_none, Scanning}
 use Rattle.message.specs.Quoting.{is_escaped, escaped}
 use Rattle.message.proofs.Laws.{escaped-append}
 use Rattle.server_text.specs.Strings.{escaped_only, exact, exact_escape}
-use Rattle.server_text.specs.Promises.{RawTo, CopiedTo, escaped_as}
+use Rattle.server_text.specs.Promises.{RawTo, CopiedTo}
 use Rattle.server_text.proofs.StringLaws.{exact-raw-run}
 
 -- ---- by the byte at a place
@@ -43,11 +44,34 @@ module _ (s : Bytes) (i : ℕ) where
   unfolding exact
   exact-fault h e f g = rw (drop-cons s i 0 h, ne_eqb _ _ e, ne_eqb _ _ f, g)
 
-  escape-on : i + 3 < length s → get_or s i 0 ≡ 92
-      → exact (drop i s) ≡ onto (escaped_only (octal (get_or s (i + 1) 0) (get_or s (i + 2) 0) (get_or s (i + 3) 0)))
-      (exact (drop (i + 4) s))
-  unfolding exact exact_escape
-  escape-on h e = rw (four s i h, e)
+  -- what three digits behind a backslash spell
+  abbrev read_octal : Option ℕ
+  read_octal = octal (behind s i 0) (behind s i 1) (behind s i 2)
+
+  module _ (h : i + 3 < length s) (e : get_or s i 0 ≡ 92) where
+    escape-on : exact (drop i s) ≡ onto (escaped_only read_octal) (exact (drop (i + 4) s))
+    unfolding exact exact_escape
+    escape-on =
+        rw (
+          four s i h,
+          e,
+          tail-byte s (i + 1) 0 (i + 1) (omega arith),
+          tail-byte s (i + 1) 1 (i + 2) (omega arith),
+          tail-byte s (i + 1) 2 (i + 3) (omega arith),
+        )
+
+    pub escape-byte : (b : ℕ) → in_code read_octal ≡ Some b → true ≡ is_escaped b
+        → exact (drop i s) ≡ onto (some b) (exact (drop (i + 4) s))
+    unfolding escaped_only
+    escape-byte b f g = escape-on ∙ rw (given_some read_octal b f, ← g)
+
+    pub escape-plain : (b : ℕ) → in_code read_octal ≡ Some b → false ≡ is_escaped b → exact (drop i s) ≡ malformed
+    unfolding escaped_only onto
+    escape-plain b f g = escape-on ∙ rw (given_some read_octal b f, ← g)
+
+    pub escape-bad : in_code read_octal ≡ None → exact (drop i s) ≡ malformed
+    unfolding escaped_only onto
+    escape-bad f = escape-on ∙ rw (given_none read_octal f)
 
 -- fewer than three bytes after a backslash
 short_escape : (t : Bytes) → length t < 3 → exact_escape t ≡ malformed
@@ -64,27 +88,8 @@ escape-short s i h e l =
     let k : length (drop (suc i) s) < 3 = simp length-drop (omega arith) in
     rw (drop-cons s i 0 h, e) (short_escape (drop (suc i) s) k)
 
--- an escape as the code reports it
-pub escape-at : (s : Bytes) (i : ℕ) → i + 3 < length s → get_or s i 0 ≡ 92 → (o : Octal) (c : Char)
-    → o ≡ octal_of (octal (get_or s (i + 1) 0) (get_or s (i + 2) 0) (get_or s (i + 3) 0)) → c ≡ escaped_as o (i + 4)
-    → CharAt exact s i c
-unfolding escaped_only onto
-escape-at s i h e o c f g = by o (sym f) g
-  where
-    x : Option ℕ
-    x = octal (get_or s (i + 1) 0) (get_or s (i + 2) 0) (get_or s (i + 3) 0)
-
-    is : (y : Option ℕ) → x ≡ y → exact (drop i s) ≡ onto (escaped_only y) (exact (drop (i + 4) s))
-    is y q = escape-on s i h e ∙ ap (λ (z : Option ℕ). onto (escaped_only z) (exact (drop (i + 4) s))) q
-
-    five : (b : ℕ) (t : Bool) → is_escaped b ≡ t → x ≡ some b → c ≡ cond t (Byte b (i + 4)) Bad → CharAt exact s i c
-    five b true k q r =
-        rw r (record { on = omega arith; within = omega arith; is = is (some b) q ∙ rw k })
-    five b false k q r = rw r (is (some b) q ∙ rw k)
-
-    by : (o : Octal) → octal_of x ≡ o → c ≡ escaped_as o (i + 4) → CharAt exact s i c
-    by (Byte₁ b) q r = five b (is_escaped b) refl (octal-byte x b q) r
-    by Bad₁ q r = rw r (is none (octal-bad x q))
+-- what stands at a mark, for the tactics
+pub ruleset marks = (exact-close, exact-fault, escape-short, escape-byte, escape-plain, escape-bad)
 
 -- ---- bytes that stand raw
 
@@ -119,15 +124,14 @@ module _ {line : Bytes} {at i : ℕ} (w : Raw line at i) where
         );
       }
 
-  pub raw-on : i < length line → is_escaped (get_or line i 0) ≡ false → Raw line at (i + 1)
-  unfolding escaped
-  raw-on h e = raw-more 1 (omega arith) (rw (drop-cons line i 0 h, e))
-
-  pub raw-stop : is_escaped (get_or line i 0) ≡ true → RawTo line at i
-  raw-stop e = record { place = w.place; raw = w.raw; ends = λ h. e }
-
-  pub raw-all : length line ≤ i → RawTo line at i
-  raw-all h = record { place = w.place; raw = w.raw; ends = λ k. absurd (omega arith) }
+  -- a block of 32 bytes more, and what stands behind it
+  pub raw-block : (x rest : Bytes) → drop i line ≡ x ++ rest → length x ≡ 32 → escaped x ≡ 0
+      → (rest ≡ drop (i + 32) line) × Raw line at (i + 32)
+  raw-block x rest e n z =
+      let l : length line - i ≡ 32 + length rest = simp (length-drop, length-append, n) at (ap length e) in
+      let front : take 32 (drop i line) ≡ x = rw (e, ← n) (take-append_seam x rest) in
+      let back : drop 32 (drop i line) ≡ rest = rw (e, ← n) (drop-append_seam x rest) in
+      (sym back ∙ drop-drop 32 i line, raw-more 32 (omega arith) (rw front z))
 
   -- what is looked for from i on is looked for from `at` on
   pub raw-then : {r : ℕ} → RawTo line i r → RawTo line at r
@@ -140,6 +144,38 @@ module _ {line : Bytes} {at i : ℕ} (w : Raw line at i) where
         raw = rw e at u.raw;
         ends = v.ends;
       }
+
+raw-position : (s : Bytes) → escaped (take (position_or_len is_escaped s) s) ≡ 0
+unfolding escaped
+raw-position [] = refl
+raw-position (c ∷ s) = by (is_escaped c) refl (raw-position s)
+  where
+    by : (b : Bool) → is_escaped c ≡ b → escaped (take (position_or_len is_escaped s) s) ≡ 0
+        → escaped (take (cond (not b) (1 + position_or_len is_escaped s) 0) (c ∷ s)) ≡ 0
+    by true e h = refl
+    by false e h =
+        let f : 1 + position_or_len is_escaped s ≡ suc (position_or_len is_escaped s) = omega arith in
+        rw (f, e) (omega arith)
+
+-- the first byte that may not stand raw, as a place of the line
+pub raws : (line : Bytes) (at r : ℕ) → at ≤ length line
+    → r ≡ at + unwrap_or (position is_escaped (drop at line)) (length (drop at line)) → RawTo line at r
+raws line at r h e =
+    by (position_or_len is_escaped (drop at line)) (prefix_len-le-length _ (drop at line))
+    (raw-position (drop at line)) (passes_at_first is_escaped (drop at line) 0)
+    (e ∙ ap (◌+◌ at) (position-or is_escaped (drop at line)))
+  where
+    by : (n : ℕ) → n ≤ length (drop at line) → escaped (take n (drop at line)) ≡ 0
+        → (n < length (drop at line) → is_escaped (get_or (drop at line) n 0) ≡ true) → r ≡ at + n → RawTo line at r
+    by n l f g k =
+        let m = simp length-drop at l in
+        let d : r - at ≡ n = omega arith in
+        record {
+          place = record { on = omega arith; within = omega arith };
+          raw = rw d f;
+          ends = λ q. let b : n < length (drop at line) = simp length-drop (omega arith) in
+              rw k (rw get_or-drop at (g b));
+        }
 
 nul-escaped : (c : ℕ) → eqb c 0 ≡ true → is_escaped c ≡ true
 unfolding is_escaped

@@ -2,17 +2,10 @@
 ghost use Rattle.std.specs.Prelude.{◌≡◌, true, ◌+◌, ◌≤◌, ◌<◌, length, drop, get_or};
 ghost use Rattle.message.specs.Quoting.{is_escaped};
 ghost use Rattle.server_text.specs.Strings.{exact};
-ghost use Rattle.text.specs.FieldPost.{CharAt};
-ghost use Rattle.server_text.specs.Promises.{RawTo, CopiedTo, escaped_as, StringAt};
+ghost use Rattle.text.specs.FieldPost.{CharAt, StringAt};
+ghost use Rattle.server_text.specs.Promises.{RawTo, CopiedTo};
 
-use text::{Char, Octal};
-
-// A string of `len` bytes, with a NUL or not, before `next`; or a malformed one.
-#[derive(Clone, Copy)]
-pub enum Scanned {
-    String { len: usize, next: usize, nul: bool },
-    Bad,
-}
+use text::{Field, Malformed, Mark};
 
 // The index of the first byte from `at` on that may not stand raw in a string, or the line's
 // length.
@@ -20,27 +13,23 @@ fn raw_from(line: &[u8], at: usize) -> usize
     requires { at ≤ length line.now }
     ensures { RawTo line.now at result }
 {
-    let mut i = at;
-    while i < line.len() {
-        let escaped = message::is_escaped(line[i]);
-        if escaped {
-            return i;
-        }
-        i += 1;
-    }
-    i
+    let rest = &line[at..];
+    at + rest
+        .iter()
+        .position(|b| message::is_escaped(*b))
+        .unwrap_or(rest.len())
 }
 
 // The same. Blocks of 32 bytes that may all stand raw are passed whole.
+// Kept: `octets::first_nul` goes by blocks too; one for both would take size, count and test.
 fn raw_end(line: &[u8], at: usize) -> usize
     requires { at ≤ length line.now }
     ensures { RawTo line.now at result }
 {
     let mut i = at;
-    while 32 <= line.len() - i {
-        let n = message::escaped_in(&line[i..i + 32]);
-        if n != 0 {
-            return raw_from(line, i);
+    for block in line[at..].chunks_exact(32) {
+        if message::escaped_in(block) != 0 {
+            break;
         }
         i += 32;
     }
@@ -58,75 +47,57 @@ fn copy_raw(line: &[u8], at: usize, buf: &mut [u8], to: usize) -> usize
     e
 }
 
-// The byte of three octal digits before `next`, which has to be one that a string escapes.
-fn escape_before(o: Octal, next: usize) -> Char
-    ensures { result ≡ escaped_as o next }
-{
-    match o {
-        Octal::Bad => Char::Bad,
-        Octal::Byte(b) => {
-            let escaped = message::is_escaped(b);
-            if escaped {
-                return Char::Byte {
-                    byte: b,
-                    next: next,
-                };
-            }
-            Char::Bad
-        }
-    }
-}
-
-// What stands at i in a string, where no byte stands raw: the closing mark, an escape or a fault.
-fn mark_at(line: &[u8], i: usize) -> Char
+// What stands at i in a string, where no byte stands raw: the closing mark, or an escape of a byte
+// that a string escapes.
+#[tactic(auto, using(crate::proofs::ScanLaws::marks))]
+fn mark_at(line: &[u8], i: usize) -> Result<Mark, Malformed>
     requires { (i < length line.now) × (is_escaped (get_or line.now i 0) ≡ true) }
     ensures { CharAt exact line.now i result }
 {
-    if line[i] == b'"' {
-        return Char::Close { next: i + 1 };
+    match line[i] {
+        b'"' => Ok(Mark::Close { next: i + 1 }),
+        b'\\' => {
+            let [a, b, c, ..] = &line[i + 1..] else {
+                return Err(Malformed);
+            };
+            let Some(byte) = text::octal_of(*a, *b, *c) else {
+                return Err(Malformed);
+            };
+            if !message::is_escaped(byte) {
+                return Err(Malformed);
+            }
+            Ok(Mark::Byte { byte, next: i + 4 })
+        }
+        _ => Err(Malformed),
     }
-    if line[i] != b'\\' {
-        return Char::Bad;
-    }
-    if line.len() - i < 4 {
-        return Char::Bad;
-    }
-    escape_before(text::octal_of(line[i + 1], line[i + 2], line[i + 3]), i + 4)
 }
 
 // A string from behind its opening mark; its bytes go to buf from `to` on, as far as buf goes. What
 // stands raw is copied.
-pub fn string_at(line: &[u8], at: usize, buf: &mut [u8], to: usize) -> Scanned
+pub fn string_at(line: &[u8], at: usize, buf: &mut [u8], to: usize) -> Result<Field, Malformed>
     requires { (at ≤ length line.now) × (to ≤ at) }
     ensures { StringAt (exact (drop at line.now)) line.now at
         buf.old to result buf.new }
 {
     let mut i = at;
-    let mut n: usize = 0;
+    let mut len = 0;
     let mut nul = false;
+    // Kept: a turn takes a run and a mark, so that no range counts the places.
     while i < line.len() {
-        let e = copy_raw(line, i, buf, to + n);
+        let e = copy_raw(line, i, buf, to + len);
         if line.len() <= e {
-            return Scanned::Bad;
+            return Err(Malformed);
         }
-        n += e - i;
-        let c = mark_at(line, e);
-        match c {
-            Char::Byte { byte, next } => {
-                octets::put(buf, to + n, byte);
-                nul = text::noted(nul, byte);
-                n += 1;
+        len += e - i;
+        match mark_at(line, e)? {
+            Mark::Byte { byte, next } => {
+                octets::put(buf, to + len, byte);
+                nul |= byte == 0;
+                len += 1;
                 i = next;
             }
-            Char::Close { next } => {
-                return Scanned::String {
-                    len: n,
-                    next: next,
-                    nul: nul,
-                };
-            }
-            Char::Bad => return Scanned::Bad,
+            Mark::Close { next } => return Ok(Field { len, next, nul }),
         }
     }
-    Scanned::Bad
+    Err(Malformed)
 }

@@ -7,6 +7,7 @@ ghost use Rattle.slot.specs.Region.{SlotRules, client_of, slot_of};
 ghost use Rattle.slot.specs.Promises.{room_of, HasOpen, IsOpen, IsAddable, Becomes};
 ghost use Rattle.slot.specs.Promises.{Adding, Removing};
 
+use crate::{OPEN, PATTERNS, PHASE, RECORDING};
 use message::Message;
 
 // Adds the pattern, where the client does not hold it yet.
@@ -14,7 +15,7 @@ pub fn add_pattern(s: &mut [u8], pattern: &[u8])
     requires { IsAddable s.old pattern.now }
     ensures { Adding pattern.now s.old s.new }
 {
-    subscriptions::add(&mut s[4..4104], pattern);
+    subscriptions::add(&mut s[PATTERNS..RECORDING], pattern);
 }
 
 // Removes the pattern.
@@ -22,7 +23,7 @@ pub fn remove_pattern(s: &mut [u8], pattern: &[u8])
     requires { IsOpen s.old }
     ensures { Removing pattern.now s.old s.new }
 {
-    subscriptions::remove(&mut s[4..4104], pattern);
+    subscriptions::remove(&mut s[PATTERNS..RECORDING], pattern);
 }
 
 // Owes the open client an INFO with this body if it holds a pattern for the key, which is the first
@@ -33,7 +34,7 @@ fn notify_open(s: &mut [u8], r: usize, body: &[u8], key: usize)
         (used (notified (room_of r s.old) body.now key
         (client_of r s.old))) }
 {
-    if subscriptions::any_accepts(&s[4..4104], &body[..key]) {
+    if subscriptions::any_accepts(&s[PATTERNS..RECORDING], &body[..key]) {
         crate::queueing::owe(s, r, Message::Info, body);
     }
 }
@@ -47,8 +48,7 @@ pub fn notify(s: &mut [u8], r: usize, body: &[u8], key: usize)
         (on_client (notified (room_of r s.old) body.now key)
         (slot_of r s.old)) }
 {
-    if s[0] != 1 {
-        return;
+    if s[PHASE] == OPEN {
+        notify_open(s, r, body, key);
     }
-    notify_open(s, r, body, key);
 }

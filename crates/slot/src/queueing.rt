@@ -8,24 +8,10 @@ ghost use Rattle.slot.specs.Image.{owed, refused, error_fits, slipped, settled};
 ghost use Rattle.slot.specs.Region.{SlotRules, client_of, slot_of};
 ghost use Rattle.slot.specs.Promises.{room_of, HasResting, HasOpen, HasOpenResting, Becomes, Taking};
 
+use crate::opening::Opening;
+use crate::{KIND, OPEN, PHASE, QUEUE, RECORDING, SHUT};
 use message::Message;
 use protocol::Refusal;
-
-// Whether the client has a message to take.
-pub fn has_message(s: &[u8], r: usize) -> bool
-    requires { HasResting r s.now }
-    ensures { result ≡ not (is_empty (client_of r s.now).queue.queued) }
-{
-    !queue::is_empty(&s[4116 + r..])
-}
-
-// The length of the client's first message.
-pub fn first_length(s: &[u8], r: usize) -> usize
-    requires { HasResting r s.now }
-    ensures { result ≡ first_length (client_of r s.now).queue.queued }
-{
-    queue::first_length(&s[4116 + r..])
-}
 
 // Takes the client's first message: it goes to the front of out, which has room for it. Gives its
 // length.
@@ -34,7 +20,7 @@ pub fn take(s: &mut [u8], r: usize, out: &mut [u8]) -> usize
         × (first_length (client_of r s.old).queue.queued ≤ length out.old) }
     ensures { Taking r s.old out.old result s.new out.new }
 {
-    queue::take(&mut s[4116 + r..], out)
+    queue::take(&mut s[QUEUE + r..], out)
 }
 
 // Owes the open client a message; `body` is the payload of an INFO or the identifier of a PONG.
@@ -44,8 +30,8 @@ pub fn owe(s: &mut [u8], r: usize, message: Message, body: &[u8])
         (used (owed (room_of r s.old) (said message body.now)
         (client_of r s.old))) }
 {
-    let kind = crate::kind(&s[..]);
-    queue::owe(&mut s[4116 + r..], kind, message, body);
+    let kind = Opening::from(s[KIND]).kind;
+    queue::owe(&mut s[QUEUE + r..], kind, message, body);
 }
 
 // Shuts the open client: its patterns, its recording and what is pending go, and the ERROR is
@@ -55,18 +41,10 @@ pub fn refuse(s: &mut [u8], r: usize, refusal: Refusal)
     ensures { Becomes r s.old s.new
         (used (refused refusal (client_of r s.old))) }
 {
-    let kind = crate::kind(&s[..]);
-    s[0] = 2;
+    let kind = Opening::from(s[KIND]).kind;
+    s[PHASE] = SHUT;
     crate::strip(s, r);
-    queue::put_error(&mut s[4116 + r..], kind, refusal);
-}
-
-// Whether the ERROR of a refusal fits in the client's queue with 64 of its room kept back.
-pub fn error_fits(s: &[u8], r: usize, refusal: Refusal) -> bool
-    requires { HasOpenResting r s.now }
-    ensures { result ≡ error_fits (room_of r s.now) refusal (client_of r s.now) }
-{
-    queue::error_fits(&s[4116 + r..], crate::kind(s), refusal)
+    queue::put_error(&mut s[QUEUE + r..], kind, refusal);
 }
 
 // A slip: the open client stays open, its transaction, where it has one, is spoiled, and the ERROR,
@@ -77,9 +55,9 @@ pub fn slip(s: &mut [u8], r: usize, refusal: Refusal)
     ensures { Becomes r s.old s.new
         (used (slipped refusal (client_of r s.old))) }
 {
-    let kind = crate::kind(&s[..]);
-    recording::spoil(&mut s[4104..4116 + r]);
-    queue::put_error(&mut s[4116 + r..], kind, refusal);
+    let kind = Opening::from(s[KIND]).kind;
+    recording::spoil(&mut s[RECORDING..QUEUE + r]);
+    queue::put_error(&mut s[QUEUE + r..], kind, refusal);
 }
 
 // Ends a step for the open client: what it is owed is queued, or it is shut with 102 where that did
@@ -89,11 +67,11 @@ fn settle_open(s: &mut [u8], r: usize)
     ensures { Becomes r s.old s.new
         (used (settled (client_of r s.old))) }
 {
-    if queue::is_overflown(&s[4116 + r..]) {
+    if queue::is_overflown(&s[QUEUE + r..]) {
         refuse(s, r, Refusal::Room);
-        return;
+    } else {
+        queue::settle(&mut s[QUEUE + r..]);
     }
-    queue::settle(&mut s[4116 + r..]);
 }
 
 // Ends a step: what an open client is owed is queued, or the client is shut with 102. A free slot
@@ -103,8 +81,7 @@ pub fn settle(s: &mut [u8], r: usize)
     ensures { Becomes r s.old s.new
         (on_client settled (slot_of r s.old)) }
 {
-    if s[0] != 1 {
-        return;
+    if s[PHASE] == OPEN {
+        settle_open(s, r);
     }
-    settle_open(s, r);
 }

@@ -3,7 +3,7 @@ use mathlib.Core.Path.{◌≡◌, refl, sym, subst}
 use mathlib.Core.List.{[], ◌++◌}
 use Prim.Native.Nat.{ℕ, ◌≤◌}
 use lib.ListN.{length}
-use borrow.Author.Tests.{leb-true, ltb-false, not-false, ne_eqb}
+use borrow.Author.Tests.{leb-true, ltb-false, not-false}
 use Rattle.octets.specs.Octets.{Bytes}
 use Rattle.protocol.specs.Terms.{Action, hello, sub, unsub, read, ping, value_tail, version, pong}
 use Rattle.message.specs.declared.Message.TheVariants.{Version, Info, Pong}
@@ -50,12 +50,6 @@ module _ {m : Bytes} {i : ℕ} {p : Bytes} where
         short = turn-short t;
         fits = not-false _ t.allowed;
       }
-
--- any other ID is PING's
-pub action-ping : (id : ℕ) (p : Bytes) → (id ≡ 0 → ⊥) → (id ≡ 1 → ⊥) → (id ≡ 2 → ⊥) → (id ≡ 3 → ⊥) → (id ≡ 4 → ⊥)
-    → action_of id p ≡ ping p
-unfolding action_of
-action-ping id p a b c d e = rw (ne_eqb id 0 a, ne_eqb id 1 b, ne_eqb id 2 c, ne_eqb id 3 d, ne_eqb id 4 e)
 
 -- ---- what they leave
 

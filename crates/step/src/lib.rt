@@ -1,9 +1,11 @@
 // A step: each action at its turn changes the store and the patterns and owes messages, and at the
 // end every slot is settled. What is read from the store and owed to a client goes through a local
 // buffer, since both lie in the memory.
+// Kept: `mem` and `slot` stay apart, as a value of both would be made anew after each change.
 #![tactic(auto)]
 
 ghost use Rattle.std.specs.Prelude.{◌≡◌, not, ◌≤◌, length};
+ghost use Rattle.protocol.specs.Ids.{id_of};
 ghost use Rattle.protocol.specs.Terms.{sub, read};
 ghost use Rattle.pattern.specs.Answer.{accepted};
 ghost use Rattle.store.specs.Region.{store_of};
@@ -18,25 +20,29 @@ ghost use Rattle.step.specs.TurnParts.{Turning, EntryAt, entry_key, entry_body, 
 ghost use Rattle.step.specs.TurnParts.{StoredAt, OwingIf, Copied, NotifyingAll};
 ghost use Rattle.step.specs.TurnParts.{Writing, KeyAt, WritingAt, Wrote, changed_by};
 
-use command::Written;
+use command::{Parts, Written};
 use message::Message;
+use protocol::CommandId;
+use store::Place;
 
-// The turn of an action with this ID and payload, which is not refused. What was an index of the
+// The turn of an action, a command with its payload, which is not refused. What was an index of the
 // store before it is one after it; which rows it names is left open.
-pub fn turn(mem: &mut [u8], slot: usize, id: u8, p: &[u8], index: &mut [usize])
-    requires { (Turning mem.old slot id p.now)
+pub fn turn(mem: &mut [u8], slot: usize, id: CommandId, p: &[u8], index: &mut [usize])
+    requires { (Turning mem.old slot (id_of id) p.now)
         × (Indexes (image_of mem.old).store index.old) }
     ensures { (Becomes mem.old mem.new
-        (after_turn infod3 slot (action_of id p.now) (image_of mem.old)))
+        (after_turn infod3 slot (action_of (id_of id) p.now) (image_of mem.old)))
         × (Indexes (image_of mem.new).store index.new) }
 {
+    // Kept: the cases are closed, and a `match` shows that each has its step.
     match id {
-        0 => memory::owe(mem, slot, Message::Version, b""),
-        1 => turn_sub(mem, slot, p),
-        2 => memory::remove_pattern(mem, slot, p),
-        3 => turn_read(mem, slot, p, &index[..]),
-        4 => turn_write(mem, p, index),
-        _ => memory::owe(mem, slot, Message::Pong, p),
+        CommandId::Hello => memory::owe(mem, slot, Message::Version, b""),
+        CommandId::Sub => turn_sub(mem, slot, p),
+        CommandId::Unsub => memory::remove_pattern(mem, slot, p),
+        CommandId::Read => turn_read(mem, slot, p, index),
+        CommandId::Write => turn_write(mem, p, index),
+        CommandId::Ping => memory::owe(mem, slot, Message::Pong, p),
+        CommandId::Begin | CommandId::Commit => unreachable!(),
     }
 }
 
@@ -47,14 +53,12 @@ fn turn_sub(mem: &mut [u8], slot: usize, pattern: &[u8])
         (after_turn infod3 slot (sub pattern.now) (image_of mem.old)) }
 {
     memory::add_pattern(mem, slot, pattern);
+    // Kept: a fixed array, as the library has no heap.
     let mut buf = [0u8; 512];
-    let n = store::count(memory::store_part(&mem[..]));
     let mut at = 0;
-    let mut passed = 0;
-    while passed < n {
+    for _passed in 0..store::count(memory::store_part(mem)) {
         owe_match(mem, slot, pattern, at, &mut buf);
-        at += store::row_size(memory::store_part(&mem[..]), at);
-        passed += 1;
+        at += store::row_size(memory::store_part(mem), at);
     }
 }
 
@@ -65,14 +69,15 @@ fn owe_match(mem: &mut [u8], slot: usize, pattern: &[u8], at: usize, buf: &mut [
     ensures { OwingIf (accepted pattern.now (entry_key mem.old at)) slot
         (entry_info mem.old at) mem.old mem.new }
 {
-    if !pattern::accepts(pattern, store::key_at(memory::store_part(&mem[..]), at)) {
+    let store = memory::store_part(mem);
+    if !pattern::accepts(pattern, store::key_at(store, at)) {
         return;
     }
-    if 519 < store::row_size(memory::store_part(&mem[..]), at) {
+    if 519 < store::row_size(store, at) {
         owe_long_entry(mem, slot, at);
-        return;
+    } else {
+        owe_entry_with(mem, slot, at, buf);
     }
-    owe_entry_with(mem, slot, at, buf);
 }
 
 // READ: an INFO with the key's value, or without one where the key is absent.
@@ -82,19 +87,14 @@ fn turn_read(mem: &mut [u8], slot: usize, key: &[u8], index: &[usize])
     ensures { Becomes mem.old mem.new
         (after_turn infod3 slot (read key.now) (image_of mem.old)) }
 {
-    let place = store::find(memory::store_part(&mem[..]), index, key);
-    let at = place.at;
-    let len = place.len;
+    let Place { at, len } = store::find(memory::store_part(mem), index, key);
     if len == 0 {
         memory::owe(mem, slot, Message::Info, key);
-        return;
-    }
-    if 519 < len {
+    } else if 519 < len {
         owe_long_entry(mem, slot, at);
-        return;
+    } else {
+        owe_entry_by::<512>(mem, slot, at);
     }
-    let mut buf = [0u8; 512];
-    owe_entry_with(mem, slot, at, &mut buf);
 }
 
 // Owes the client an INFO of an entry of any length. What a buffer costs goes by its length, so
@@ -105,23 +105,22 @@ fn owe_long_entry(mem: &mut [u8], slot: usize, at: usize)
     ensures { Owing slot (entry_info mem.old at)
         mem.old mem.new }
 {
-    let size = store::row_size(memory::store_part(&mem[..]), at);
-    if size <= 2055 {
-        let mut buf = [0u8; 2048];
-        owe_entry_with(mem, slot, at, &mut buf);
-        return;
+    match store::row_size(memory::store_part(mem), at) {
+        ..=2055 => owe_entry_by::<2048>(mem, slot, at),
+        ..=8199 => owe_entry_by::<8192>(mem, slot, at),
+        ..=32775 => owe_entry_by::<32768>(mem, slot, at),
+        _ => owe_entry_by::<65535>(mem, slot, at),
     }
-    if size <= 8199 {
-        let mut buf = [0u8; 8192];
-        owe_entry_with(mem, slot, at, &mut buf);
-        return;
-    }
-    if size <= 32775 {
-        let mut buf = [0u8; 32768];
-        owe_entry_with(mem, slot, at, &mut buf);
-        return;
-    }
-    let mut buf = [0u8; 65535];
+}
+
+// Owes the client an INFO of an entry whose body is at most N bytes, through a buffer of N bytes.
+fn owe_entry_by<const N: usize>(mem: &mut [u8], slot: usize, at: usize)
+    requires { (EntryAt mem.old slot at) × (length (entry_body mem.old at) ≤ N) × (N ≤ 65535) }
+    ensures { Owing slot (entry_info mem.old at)
+        mem.old mem.new }
+{
+    // Kept: a fixed array, as the library has no heap.
+    let mut buf = [0u8; N];
     owe_entry_with(mem, slot, at, &mut buf);
 }
 
@@ -132,7 +131,7 @@ fn owe_entry_with(mem: &mut [u8], slot: usize, at: usize, buf: &mut [u8])
     ensures { Owing slot (entry_info mem.old at)
         mem.old mem.new }
 {
-    let n = copy_body(&mem[..], at, buf);
+    let n = copy_body(mem, at, buf);
     memory::owe(mem, slot, Message::Info, &buf[..n]);
 }
 
@@ -155,29 +154,26 @@ fn turn_write(mem: &mut [u8], p: &[u8], index: &mut [usize])
     ensures { (Wrote p.now mem.old mem.new)
         × (Indexes (image_of mem.new).store index.new) }
 {
-    let parts = command::split(p);
-    let key = parts.key;
-    let written = parts.written;
-    let place = store::find(memory::store_part(&mem[..]), &index[..], &p[..key]);
-    let at = place.at;
-    let old = place.len;
-    write_at(mem, p, key, written, at, old);
-    store::move_index(index, at, old, commit::written_size(key, written));
+    let Parts { key, written } = command::split(p);
+    let Place { at, len } = store::find(memory::store_part(mem), index, &p[..key]);
+    write_at(mem, p, key, written, at, len);
+    store::move_index(index, at, len, commit::written_size(key, written));
 }
 
 // A WRITE of a payload, by its parts. The key's row is at offset `at` and `old` bytes long, 0 where
 // the key is absent. If the value or presence of the key changes, the store is changed, and each
 // client with a matching pattern is owed one INFO.
+// Kept: the row's place and size stay apart, as callers tell an absent key by the size.
 pub fn write_at(mem: &mut [u8], p: &[u8], key: usize, written: Written, at: usize, old: usize)
     requires { WritingAt mem.old p.now key written at old }
     ensures { Wrote p.now mem.old mem.new }
 {
-    if is_unchanged(memory::store_part(&mem[..]), p, written, at, old) {
+    if is_unchanged(memory::store_part(mem), p, written, at, old) {
         return;
     }
     match written {
         Written::Delete => memory::delete_at(mem, at, old),
-        Written::Value { start: _, len: _ } => memory::write_at(mem, at, old, p, key),
+        Written::Value { .. } => memory::write_at(mem, at, old, p, key),
     }
     notify_all(mem, p, key);
 }
@@ -190,12 +186,8 @@ fn is_unchanged(store: &[u8], p: &[u8], written: Written, at: usize, old: usize)
 {
     match written {
         Written::Delete => old == 0,
-        Written::Value { start, len: _ } => {
-            if old == 0 {
-                return false;
-            }
-            let body = store::body_at(store, at);
-            octets::equal(&p[start..], &body[start..])
+        Written::Value { start, .. } => {
+            old != 0 && octets::equal(&p[start..], &store::body_at(store, at)[start..])
         }
     }
 }
@@ -205,16 +197,9 @@ fn notify_all(mem: &mut [u8], body: &[u8], key: usize)
     requires { (Sound mem.old) × (key ≤ length body.now) × (length body.now ≤ 65535) }
     ensures { NotifyingAll body.now key mem.old mem.new }
 {
-    let step = memory::slot_size(&mem[..]);
-    let n = memory::slot_count(&mem[..]);
-    let r = memory::record_room(&mem[..]);
-    let mut at = memory::store_end(&mem[..]);
-    let mut i = 0;
-    while i < n {
-        let end = at + step;
-        memory::notify(mem, at, end, r, body, key);
-        at = end;
-        i += 1;
+    let sizes = memory::read_sizes(mem);
+    for i in 0..sizes.slots {
+        memory::notify(mem, sizes, i, body, key);
     }
 }
 
@@ -224,15 +209,8 @@ pub fn settle_all(mem: &mut [u8])
     ensures { Becomes mem.old mem.new
         (settled_image (image_of mem.old)) }
 {
-    let step = memory::slot_size(&mem[..]);
-    let n = memory::slot_count(&mem[..]);
-    let r = memory::record_room(&mem[..]);
-    let mut at = memory::store_end(&mem[..]);
-    let mut i = 0;
-    while i < n {
-        let end = at + step;
-        memory::settle(mem, at, end, r);
-        at = end;
-        i += 1;
+    let sizes = memory::read_sizes(mem);
+    for i in 0..sizes.slots {
+        memory::settle(mem, sizes, i);
     }
 }

@@ -24,7 +24,7 @@ use Rattle.store.specs.Operation.{Payload, put_payload, Writable, Becomes}
 use Rattle.store.proofs.RowLaws.{sound-fine, body_of-split}
 use Rattle.store.proofs.RowLaws.{length-row_bytes, body-row_bytes, sound-row_bytes, entry_of-row_bytes}
 use Rattle.store.proofs.Rows.{Rows, row-front, rows_behind}
-use Rattle.store.proofs.Region.{Represents, represents, ascending-store_of, charge-store_of, length-store_of}
+use Rattle.store.proofs.Region.{Represents, represents, bounds, ascending-store_of, charge-store_of, length-store_of}
 use Rattle.store.proofs.Split.{Split, split, own, entry, charge-own, store_after_write-split, row_count-some}
 use Rattle.store.proofs.Split.{charge-whole, length_whole, charge-after, length-after}
 use Rattle.store.proofs.Splice.{represents-splice, becomes}
@@ -179,3 +179,25 @@ gone {st} {k} {at} {old} f d h =
       count = omega arith;
       few = omega (arith, r.few, r.count);
     }
+
+-- ---- what the steps of both may rest on
+
+module _ (st k : Bytes) where
+  abbrev place : ℕ
+  place = store_charge (lower k (store_of st))
+
+  abbrev size : ℕ
+  size = charge k (lookup k (store_of st))
+
+module _ (st k : Bytes) (f : store_fine st ≡ true) where
+  pub found_room : place st k + size st k ≤ used_of st
+  found_room = found_within f (record { offset = refl; size = refl })
+
+  pub delete_count : 0 < size st k → (size st k ≡ size st k) × (1 ≤ count_of st)
+  delete_count h = (refl, (gone f (record { offset = refl; size = refl }) h).some-entry)
+
+pub write_room : (st p : Bytes) (n : ℕ) → Writable st p n
+    → 8 + (place st (take n p) + (7 + length p) + (used_of st - (place st (take n p) + size st (take n p)))) ≤ length st
+write_room st p n w = (ready st p n _ _ w (record { offset = refl; size = refl })).room
+
+pub ruleset changes = (bounds, found_room, delete_count, write_room)

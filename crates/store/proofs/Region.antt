@@ -83,6 +83,11 @@ module _ (st : Bytes) (f : store_fine st ≡ true) where
   pub length-store_of : length (store_of st) ≡ count_of st
   length-store_of = sym (represents st f).count
 
+-- the bounds that a store keeps
+pub bounds : (st : Bytes) → store_fine st ≡ true
+    → (store_fine st ≡ true) × (8 + used_of st ≤ length st) × (count_of st ≤ 1024)
+bounds st f = let r = represents st f in (f, r.long, omega (arith, r.few, r.count))
+
 -- ---- a walk over the rows
 
 -- From offset `at` of the room on, the rows are those of the entries es.

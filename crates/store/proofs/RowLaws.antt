@@ -1,8 +1,8 @@
 -- The laws of one row: what its test says, what of it is seen through the front of a list, and the row that is written.
 use mathlib.Core.Path.{◌≡◌, sym, ap, ◌∙◌}
 use mathlib.Core.List.{[], ◌∷◌, ◌++◌}
-use mathlib.Core.Bool.{true, false, ◌&&◌}
-use Prim.Native.Nat.{ℕ, suc, ◌+◌, ◌-◌, ◌≤◌, ◌<◌, min as least}
+use mathlib.Core.Bool.{true}
+use Prim.Native.Nat.{ℕ, suc, ◌+◌, ◌-◌, ◌≤◌, ◌<◌}
 use native.Mathlib.Nat.{add-zero}
 use native.Mathlib.Omega.{arith}
 use borrow.Author.Tests.{leb-true, ltb-true, eqb-true, le-leb, lt-ltb, eq-eqb}
@@ -15,7 +15,7 @@ use Rattle.octets.specs.Number.{number_at, big_endian}
 use Rattle.octets.proofs.Laws.{sets-append}
 use Rattle.octets.proofs.Parts.{part-take, part-add, length_part}
 use Rattle.octets.proofs.Numbers.{number_at-take, number_at-drop, number_at-big_endian-append, length-big_endian}
-use Rattle.model.proofs.Tests.{either, and_left, and_right}
+use Rattle.model.proofs.Tests.{and_left, and_right}
 use Rattle.store.specs.Row.{body_length, key_length, row_size, key_of, value_of, body_of, entry_of, row_fine, row_bytes}
 
 -- ---- the test
@@ -208,54 +208,33 @@ key-at s i = number_at-drop 2 s i 4
 -- a row at an index, read in the list
 pub ruleset row_tests = (body_at, key-at, length-drop, get_or-drop)
 
--- the row is within the list
-pub record Within (s : Bytes) (i : ℕ) : Type 0 where
-  pub whole : i + (7 + number_at 4 s i) ≤ length s
-  pub key-within : number_at 2 s (i + 4) < number_at 4 s i
+module _ (s : Bytes) (i : ℕ) where
+  -- the row is within the list
+  pub row_whole : row_fine (drop i s) ≡ true → i + (7 + number_at 4 s i) ≤ length s
+  row_whole e =
+      let w = (sound (drop i s) e).whole in
+      omega (arith, length-drop i s, body_at s i)
 
-pub row_within : (s : Bytes) (i : ℕ) → row_fine (drop i s) ≡ true → Within s i
-row_within s i e =
-    let h = sound (drop i s) e in
-    let w = h.whole in
-    let k = h.key-within in
-    let l = length-drop i s in
-    let b = body_at s i in
-    let n = key-at s i in
-    record { whole = omega arith; key-within = omega arith }
+  pub row_key : row_fine (drop i s) ≡ true → number_at 2 s (i + 4) < number_at 4 s i
+  row_key e =
+      let k = (sound (drop i s) e).key-within in
+      omega (arith, body_at s i, key-at s i)
 
--- the parts, as code finds them
-pub key_of-at : (s : Bytes) (i n : ℕ) → n ≡ number_at 2 s (i + 4)
-    → part s (i + 7) n ≡ key_of (drop i s)
-unfolding key_of
-key_of-at s i n e = rw (e, key-at s i, drop-drop 7 i s)
+  -- the same, of a row that is tested
+  pub row_room : row_fine (drop i s) ≡ true → (row_fine (drop i s) ≡ true) × (i + 8 ≤ length s)
+  row_room e = (e, omega (arith, (sound (drop i s) e).head, length-drop i s))
 
-pub body_of-at : (s : Bytes) (i n : ℕ) → n ≡ number_at 4 s i → part s (i + 7) n ≡ body_of (drop i s)
-unfolding body_of
-body_of-at s i n e = rw (e, body_at s i, drop-drop 7 i s)
+  -- the parts, as code finds them
+  pub key_of-at : key_of (drop i s) ≡ part s (i + 7) (number_at 2 s (i + 4))
+  unfolding key_of
+  key_of-at = rw (key-at s i, drop-drop 7 i s)
 
--- the test, as code makes it
-pub row_fine-at : (s : Bytes) (i b k : ℕ) → b ≡ number_at 4 s i → k ≡ number_at 2 s (i + 4)
-    → row_fine (drop i s)
-    ≡ leb 8 (length s - i)
-    && (ltb k b
-    && (leb b 65535
-    && (leb (7 + b) (length s - i)
-    && (eqb (get_or s (i + 6) 0) 0
-    && eqb (get_or s (i + 7 + k) 0) 0))))
-unfolding row_fine
-row_fine-at s i b k eb ek =
-    let j : i + (7 + k) ≡ i + 7 + k = omega arith in
-    rw (body_at s i, key-at s i, ← eb, ← ek, length-drop i s, get_or-drop i s 6 0, get_or-drop i s (7 + k) 0, j)
+  pub body_of-at : body_of (drop i s) ≡ part s (i + 7) (number_at 4 s i)
+  unfolding body_of
+  body_of-at = rw (body_at s i, drop-drop 7 i s)
 
--- a body that is longer than the list, or than a body may be
-pub row_fine-long : (s : Bytes) (i : ℕ) → least (length s - i - 7) 65535 < number_at 4 s i → row_fine (drop i s) ≡ false
-row_fine-long s i h =
-    either (row_fine (drop i s))
-    (λ e. let t = (sound (drop i s) e).short in
-    let w = (row_within s i e).whole in
-    let b = body_at s i in
-    absurd (omega arith))
-    (λ e. e)
+-- what a row at an index lets one know
+pub ruleset row_parts = (row_room, row_whole, row_key, body_at, key_of-at, body_of-at)
 
 -- ---- a row written part by part
 

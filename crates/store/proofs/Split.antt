@@ -12,8 +12,8 @@ use lib.Dec.{leb}
 use lib.ListN.{length, length-append}
 use Rattle.octets.specs.Octets.{Bytes}
 use Rattle.octets.specs.Order.{same, before, order}
-use Rattle.octets.specs.declared.comparison.Order.{Order}
-use Rattle.octets.specs.declared.comparison.Order.TheVariants.{Less, Equal, Greater}
+use Rattle.std.proofs.Common.{Ordering}
+use Rattle.std.proofs.Common.{Less, Equal, Greater}
 use Rattle.octets.proofs.Orders.{Ordered, less, equal, greater, ordered, same_refl, ne_same, before-irrefl, before-asym}
 use Rattle.model.specs.Store.{Entry, Store, lookup, put, remove, store_after_write, store_charge, store_fits}
 use Rattle.model.specs.Invariant.{After, Ascending}
@@ -131,7 +131,7 @@ unfolding lower lookup put remove own Ascending
 split k [] a = record { upper = []; whole = refl; put-split = λ v. refl; remove-split = refl }
 split k (e ∷ es) a = go (split k es a.1) (order e.key k) (ordered e.key k)
   where
-    go : Split k es → (o : Order) → Ordered e.key k o → Split k (e ∷ es)
+    go : Split k es → (o : Ordering) → Ordered e.key k o → Split k (e ∷ es)
     go s Less (less b) = split-before k e es b s
     go s Equal (equal q) = split-same k e es a q
     go s Greater (greater b) = split-behind k e es a b
@@ -206,16 +206,3 @@ fits_with-store_fits S k v es a =
     leb-alike (length es + row_count (charge k v)) (1024 + row_count old) (length after) 1024
     (λ h. omega arith) (λ h. omega arith) in
     rw (room, few)
-
--- what a store charges and counts after a WRITE: the old row for the new one
-pub charge-exchange : (k : Bytes) (v : Option Bytes) (es : Store) → Ascending es
-    → store_charge (store_after_write k v es) + charge k (lookup k es) ≡ store_charge es + charge k v
-charge-exchange k v es a =
-    let s = split k es a in
-    omega (arith, charge-whole s, charge-after s v)
-
-pub length-exchange : (k : Bytes) (v : Option Bytes) (es : Store) → Ascending es
-    → length (store_after_write k v es) + row_count (charge k (lookup k es)) ≡ length es + row_count (charge k v)
-length-exchange k v es a =
-    let s = split k es a in
-    omega (arith, length_whole s, length-after s v)

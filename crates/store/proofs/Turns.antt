@@ -1,7 +1,9 @@
 -- The search for a key along the rows, on plain values.
+use Rattle.std.specs.Ordering.{is_lt}
+use Rattle.octets.specs.Order.{same}
 use mathlib.Core.Path.{◌≡◌, refl, sym, ap, ◌∙◌}
 use mathlib.Core.List.{[], ◌∷◌, ◌++◌}
-use mathlib.Core.Bool.{true}
+use mathlib.Core.Bool.{Bool, true, false, cond}
 use Prim.Native.Nat.{ℕ, ◌+◌, ◌≤◌, ◌<◌}
 use native.Mathlib.Nat.{add-zero}
 use native.Mathlib.Omega.{arith}
@@ -10,7 +12,7 @@ use lib.Dec.{ltb}
 use lib.ListN.{length, drop}
 use Rattle.octets.specs.Octets.{Bytes}
 use Rattle.octets.specs.Order.{before, order}
-use Rattle.octets.specs.declared.comparison.Order.TheVariants.{Less, Equal, Greater}
+use Rattle.std.proofs.Common.{Less, Equal, Greater}
 use Rattle.octets.proofs.Orders.{order-less, order-equal, order-greater, before-trans}
 use Rattle.model.specs.Store.{Entry, Store, lookup, store_charge}
 use Rattle.model.specs.Invariant.{After, Ascending}
@@ -179,8 +181,8 @@ row_here st {at} f b h =
     record { first = m.first; others = m.rest; cons = m.cons; row = row_first (rw m.cons at r) }
 
 module _ (st : Bytes) {at : ℕ} (f : store_fine st ≡ true) (b : Boundary (store_of st) at) where
-  pub boundary-row : at < used_of st → row_fine (drop (8 + at) st) ≡ true
-  boundary-row h = (row_here st f b h).row.fine
+  pub row_at : at < used_of st → row_fine (drop (8 + at) st) ≡ true
+  row_at h = (row_here st f b h).row.fine
 
   -- at a row whose key comes before k
   pub start-at : {k : Bytes} → row_before st k at ≡ true → Start st k at
@@ -192,3 +194,14 @@ module _ (st : Bytes) {at : ℕ} (f : store_fine st ≡ true) (b : Boundary (sto
       let w : store_of st ≡ b.front ++ (r.first ∷ r.others) = rw r.cons at b.whole in
       let a : Ascending (b.front ++ (r.first ∷ r.others)) = rw w at (ascending-store_of st f) in
       record { boundary = b; in-front = all-before k b.front r.first r.others a q }
+
+-- ---- an order that is Less
+
+less-cond : (b c : Bool) → is_lt (cond b Less (cond c Equal Greater)) ≡ b
+less-cond true c = refl
+less-cond false true = refl
+less-cond false false = refl
+
+pub is_lt_order : (s t : Bytes) → is_lt (order s t) ≡ before s t
+unfolding order
+is_lt_order s t = less-cond (before s t) (same s t)

@@ -3,7 +3,7 @@ use mathlib.Core.Path.{◌≡◌, refl, sym, ap, ◌∙◌}
 use mathlib.Core.List.{[], ◌∷◌, ◌++◌, append_assoc}
 use mathlib.Core.Bool.{true, false}
 use mathlib.Core.Option.{some, none}
-use Prim.Native.Nat.{ℕ, zero, suc, ◌+◌, ◌<◌}
+use Prim.Native.Nat.{ℕ, suc, ◌+◌, ◌-◌, ◌<◌}
 use native.Mathlib.Nat.{zero-add, add-zero}
 use native.Mathlib.Omega.{arith}
 use borrow.Author.Tests.{eqb-true, eqb-false, eq-eqb, ne_eqb}
@@ -90,26 +90,24 @@ module _ {s : Bytes} {prev at n prev' at' : ℕ} (p : Passed s prev at n prev' a
       }
 
   -- no row where there should be one
-  pub failed-none : (left : ℕ) → 0 < left → row_fine (drop at' s) ≡ false → Failed s prev at (n + left)
+  pub failed-none : (count : ℕ) → n < count → row_fine (drop at' s) ≡ false → Failed s prev at count
   unfolding rows_fine
-  failed-none zero h e = absurd (omega arith)
-  failed-none (suc left) h e =
+  failed-none count h e =
       record {
         answer = λ more.
-            let m : n + suc left + more ≡ n + suc (left + more) = omega arith in
-            rw m (rw e at (p.same_answer (suc (left + more))));
+            let m : count + more ≡ n + suc (count - n - 1 + more) = omega arith in
+            rw m (rw e at (p.same_answer (suc (count - n - 1 + more))));
       }
 
   -- a row whose key does not come after the one before it
-  pub failed-unordered : (left : ℕ) → 0 < left → row_fine (drop at' s) ≡ true → key_follows s prev' at' ≡ false
-      → Failed s prev at (n + left)
+  pub failed-unordered : (count : ℕ) → n < count → row_fine (drop at' s) ≡ true → key_follows s prev' at' ≡ false
+      → Failed s prev at count
   unfolding rows_fine key_follows
-  failed-unordered zero h e f = absurd (omega arith)
-  failed-unordered (suc left) h e f =
+  failed-unordered count h e f =
       record {
         answer = λ more.
-            let m : n + suc left + more ≡ n + suc (left + more) = omega arith in
-            rw m (rw (e, f) at (p.same_answer (suc (left + more))));
+            let m : count + more ≡ n + suc (count - n - 1 + more) = omega arith in
+            rw m (rw (e, f) at (p.same_answer (suc (count - n - 1 + more))));
       }
 
   -- a walk behind it

@@ -45,14 +45,6 @@ fits_with S used count old new = leb (used + new) (S + old) && leb (count + row_
 abbrev pub store_fits_with : Bytes → ℕ → ℕ → Bool
 store_fits_with st old new = fits_with (room_of st) (used_of st) (count_of st) old new
 
--- numbers of a store and of two rows, small enough to add
-pub record Exchange (S used count old new : ℕ) : Type 0 where
-  pub room_small : S < 9223372036854775808
-  pub used-small : used < 4294967296
-  pub count_small : count < 4294967296
-  pub old-small : old < 4294967296
-  pub new-small : new < 4294967296
-
 -- a row of a region that holds a store, and a row of an entry
 pub record Replacement (st : Bytes) (old new : ℕ) : Type 0 where
   pub fine : store_fine st ≡ true

@@ -1,7 +1,8 @@
 -- What the test of the rows finds as it goes along them, so many rows at a time.
-use Rattle.std.specs.Prelude.{ℕ, ◌+◌, ◌≤◌, ◌≡◌, ◌++◌, Bool, true, false, length, drop}
+use Rattle.std.specs.Prelude.{ℕ, ◌+◌, ◌≤◌, ◌≡◌, ◌++◌, true, false, length, drop, Option, None, Some}
 use Rattle.octets.specs.Octets.{Bytes}
 use Rattle.model.specs.Store.{Store, store_charge}
+use Rattle.store.specs.declared.check.Walk.{Walk}
 use Rattle.store.specs.Row.{row_fine}
 use Rattle.store.specs.Region.{key_before, rows_fine, entries}
 
@@ -25,6 +26,6 @@ pub record Failed (s : Bytes) (prev at n : ℕ) : Type 0 where
   pub answer : (more : ℕ) → rows_fine (key_before s prev at) (n + more) (drop at s) ≡ false
 
 -- one or the other
-pub record Walked (s : Bytes) (prev at n : ℕ) (fine : Bool) (prev' at' : ℕ) : Type 0 where
-  pub passed : fine ≡ true → Passed s prev at n prev' at'
-  pub failed : fine ≡ false → Failed s prev at n
+abbrev pub Walked : Bytes → Walk → ℕ → Option Walk → Type 0
+Walked s from n None = Failed s from.prev from.at n
+Walked s from n (Some to) = Passed s from.prev from.at n to.prev to.at

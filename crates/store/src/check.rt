@@ -9,7 +9,7 @@ ghost use Rattle.store.specs.Walk.{Reached, Walked};
 
 use crate::index::note;
 use crate::row;
-use octets::u32_at;
+use octets::number_at;
 
 // Whether the key of the row at `at` comes after that of the row at `prev`. The row at 0 has none
 // before it.
@@ -17,53 +17,30 @@ fn key_follows(rows: &[u8], prev: usize, at: usize) -> bool
     requires { (row_fine (drop prev rows.now) ≡ true) × (row_fine (drop at rows.now) ≡ true) }
     ensures { result ≡ key_follows rows.now prev at }
 {
-    if at == 0 {
-        return true;
-    }
-    octets::precedes(row::key(rows, prev), row::key(rows, at))
+    at == 0 || octets::precedes(row::key(rows, prev), row::key(rows, at))
 }
 
-// How far a walk along the rows has come: whether all have passed, and if so, the row before and
-// where the next one is. Where one has not passed, the two offsets are left open.
+// How far a walk along the rows has come: where the next row is, and the row before it.
 #[derive(Clone, Copy)]
 struct Walk {
-    fine: bool,
     prev: usize,
     at: usize,
 }
 
-// Tests `count` rows from offset `from` on, behind the row at `before`.
-fn walk_rows(rows: &[u8], before: usize, from: usize, count: usize) -> Walk
-    requires { Reached rows.now before from }
-    ensures { Walked rows.now before from count result.fine result.prev result.at }
+// Tests `count` rows from where the walk has come to. None says that one has not passed.
+fn walk_rows(rows: &[u8], from: Walk, count: usize) -> Option<Walk>
+    requires { Reached rows.now from.prev from.at }
+    ensures { Walked rows.now from count result }
 {
-    let mut at = from;
-    let mut prev = before;
-    let mut left = count;
-    while 0 < left {
-        if !row::is_row(rows, at) {
-            return Walk {
-                fine: false,
-                prev,
-                at,
-            };
-        }
-        if !key_follows(rows, prev, at) {
-            return Walk {
-                fine: false,
-                prev,
-                at,
-            };
+    let Walk { mut prev, mut at } = from;
+    for _ in 0..count {
+        if !row::is_row(rows, at) || !key_follows(rows, prev, at) {
+            return None;
         }
         prev = at;
         at += row::size(rows, at);
-        left -= 1;
     }
-    Walk {
-        fine: true,
-        prev,
-        at,
-    }
+    Some(Walk { prev, at })
 }
 
 // Whether `rows` is `count` whole rows and nothing else, keys strictly ascending. An index of zeros
@@ -73,23 +50,15 @@ fn rows_fine(rows: &[u8], count: usize, index: &mut [usize]) -> bool
     ensures { (result ≡ rows_fine none count rows.now)
         × (Indexes (entries count rows.now) index.new) }
 {
-    let mut at = 0;
-    let mut prev = 0;
-    let mut left = count;
-    let mut n = 0;
-    while 0 < left {
-        note(index, n, at);
-        let k = octets::min(left, 32);
-        let w = walk_rows(rows, prev, at, k);
-        if !w.fine {
+    let mut walk = Walk { prev: 0, at: 0 };
+    for n in 0..count.div_ceil(32) {
+        note(index, n, walk.at);
+        let Some(next) = walk_rows(rows, walk, (count - 32 * n).min(32)) else {
             return false;
-        }
-        prev = w.prev;
-        at = w.at;
-        left -= k;
-        n += 1;
+        };
+        walk = next;
     }
-    at == rows.len()
+    walk.at == rows.len()
 }
 
 // Whether the region holds a store. A region of fewer than 8 bytes does not. An index of zeros is
@@ -103,14 +72,10 @@ pub fn is_fine(st: &[u8], index: &mut [usize]) -> bool
     if st.len() < 8 {
         return false;
     }
-    let used = u32_at(st, 0);
-    let count = u32_at(st, 4);
-    if st.len() < 8 + used {
+    let used = number_at::<4>(st, 0);
+    let count = number_at::<4>(st, 4);
+    if st.len() < 8 + used || 1024 < count {
         return false;
     }
-    if 1024 < count {
-        return false;
-    }
-    let end = 8 + used;
-    rows_fine(&st[8..end], count, index)
+    rows_fine(&st[8..8 + used], count, index)
 }

@@ -6,32 +6,25 @@ ghost use Rattle.store.specs.Region.{store_fine, store_of};
 ghost use Rattle.store.specs.Index.{Boundary, Indexes, row_before, Start};
 ghost use Rattle.store.specs.Index.{moved, Movable, Moved};
 
-use crate::reading::key_at;
-use octets::{Order, compare, u32_at};
+use crate::reading::{count, key_at, used};
 
 // Notes an offset in the index, if it has room for an n-th one.
 pub fn note(index: &mut [usize], n: usize, at: usize)
     ensures { index.new ≡ set index.old n at }
 {
+    // Kept: once the loan of a slice's `get_mut` is over, a proof knows no element of the slice.
     if n < index.len() {
         index[n] = at;
     }
 }
 
 // Whether a row begins at the offset and its key comes before `key`.
+#[tactic(auto, using(crate::proofs::Turns::row_at, crate::proofs::Turns::is_lt_order), unfolding(crate::specs::Index::row_before))]
 fn is_before(st: &[u8], at: usize, key: &[u8]) -> bool
     requires { (store_fine st.now ≡ true) × (Boundary (store_of st.now) at) }
     ensures { result ≡ row_before st.now key.now at }
 {
-    if u32_at(st, 0) <= at {
-        return false;
-    }
-    let order = compare(key_at(st, at), key);
-    match order {
-        Order::Less => true,
-        Order::Equal => false,
-        Order::Greater => false,
-    }
+    at < used(st) && octets::compare(key_at(st, at), key).is_lt()
 }
 
 // An offset at which a search for the key can begin: the keys of all rows before it come before
@@ -40,9 +33,10 @@ pub fn nearest(st: &[u8], index: &[usize], key: &[u8]) -> usize
     requires { (store_fine st.now ≡ true) × (Indexes (store_of st.now) index.now) }
     ensures { Start st.now key.now result }
 {
+    // Kept: `partition_point` wants a test of any number, and promises nothing of an unsorted list.
     let mut start = 0;
     let mut low = 1;
-    let mut high = octets::min(index.len(), (u32_at(st, 4) + 31) / 32);
+    let mut high = index.len().min(count(st).div_ceil(32));
     while low < high {
         let middle = low + (high - low) / 2;
         let at = index[middle];
@@ -58,15 +52,13 @@ pub fn nearest(st: &[u8], index: &[usize], key: &[u8]) -> usize
 
 // Where an offset is once the row of `old` bytes at offset `at` has given way to one of `new`
 // bytes.
+#[tactic(auto, unfolding(crate::specs::Index::moved))]
 fn moved_offset(a: usize, at: usize, old: usize, new: usize) -> usize
     requires { (at + old < 9223372036854775808) × (new < 9223372036854775808)
         × (a < 9223372036854775808) }
     ensures { result ≡ moved at old new a }
 {
-    if at + old <= a {
-        return a - old + new;
-    }
-    a
+    if at + old <= a { a - old + new } else { a }
 }
 
 // Moves each offset of an index, as the row of `old` bytes at offset `at` gives way to one of `new`
@@ -78,9 +70,7 @@ pub fn move_index(index: &mut [usize], at: usize, old: usize, new: usize)
     if old == new {
         return;
     }
-    let mut i = 0;
-    while i < index.len() {
-        index[i] = moved_offset(index[i], at, old, new);
-        i += 1;
+    for offset in index.iter_mut() {
+        *offset = moved_offset(*offset, at, old, new);
     }
 }

@@ -4,6 +4,7 @@
 // numbers that can be added, and every other function for a region that holds a store. Bytes of the
 // room behind the rows are left open by every function that writes. Internal layer: what a function
 // requires is its callers' to show.
+// Kept: a `requires` states the rule, as no ghost field stands beside the `&mut` of a region.
 #![tactic(auto)]
 
 mod check;

@@ -4,14 +4,15 @@ ghost use Rattle.std.specs.Prelude.{◌≡◌, true, ◌+◌, ◌≤◌, ◌<◌
 ghost use Rattle.store.specs.Row.{row_size, key_of, body_of, row_fine};
 ghost use Rattle.store.specs.Region.{used_of, count_of, store_fine, store_of};
 ghost use Rattle.store.specs.Index.{Indexes};
-ghost use Rattle.store.specs.Operation.{Found, body_found, row_count, fits_with, store_fits_with};
-ghost use Rattle.store.specs.Operation.{Exchange, Replacement};
+ghost use Rattle.store.specs.Operation.{Found, body_found, row_count, store_fits_with, Replacement};
 
 use crate::index::nearest;
 use crate::row;
-use octets::{Order, compare, u32_at};
+use octets::{compare, number_at};
+use std::cmp::Ordering;
 
-// The place of a key's row.
+// The place of a key's row. An absent key has the place where its row would be, and the length 0.
+// Kept: the definition `Found` gives an absent key the size 0, which `write_at` counts with.
 #[derive(Clone, Copy)]
 pub struct Place {
     pub at: usize,
@@ -19,22 +20,25 @@ pub struct Place {
 }
 
 // The used bytes of the room.
+#[tactic(auto, using(crate::proofs::Region::bounds))]
 pub fn used(st: &[u8]) -> usize
     requires { store_fine st.now ≡ true }
     ensures { result ≡ used_of st.now }
 {
-    u32_at(st, 0)
+    number_at::<4>(st, 0)
 }
 
 // The number of entries.
+#[tactic(auto, using(crate::proofs::Region::bounds))]
 pub fn count(st: &[u8]) -> usize
     requires { store_fine st.now ≡ true }
     ensures { result ≡ count_of st.now }
 {
-    u32_at(st, 4)
+    number_at::<4>(st, 4)
 }
 
 // The size of the row at offset `at`.
+#[tactic(auto, using(crate::proofs::RowLaws::row_parts))]
 pub fn row_size(st: &[u8], at: usize) -> usize
     requires { row_fine (drop (8 + at) st.now) ≡ true }
     ensures { result ≡ row_size (drop (8 + at) st.now) }
@@ -43,6 +47,7 @@ pub fn row_size(st: &[u8], at: usize) -> usize
 }
 
 // The key of the row at offset `at`, a part of the store.
+#[tactic(auto, using(crate::proofs::RowLaws::row_parts))]
 pub fn key_at(st: &[u8], at: usize) -> &[u8]
     requires { row_fine (drop (8 + at) st.now) ≡ true }
     ensures { result.now ≡ key_of (drop (8 + at) st.now) }
@@ -51,6 +56,7 @@ pub fn key_at(st: &[u8], at: usize) -> &[u8]
 }
 
 // The body of the row at offset `at`, a part of the store: key, NUL and value.
+#[tactic(auto, using(crate::proofs::RowLaws::row_parts))]
 pub fn body_at(st: &[u8], at: usize) -> &[u8]
     requires { row_fine (drop (8 + at) st.now) ≡ true }
     ensures { result.now ≡ body_of (drop (8 + at) st.now) }
@@ -64,23 +70,19 @@ pub fn find(st: &[u8], index: &[usize], key: &[u8]) -> Place
     requires { (store_fine st.now ≡ true) × (Indexes (store_of st.now) index.now) }
     ensures { Found st.now key.now result.at result.len }
 {
-    let used = u32_at(st, 0);
+    let end = used(st);
     let mut at = nearest(st, index, key);
-    while at < used {
-        let order = compare(key_at(st, at), key);
-        match order {
-            Order::Less => {
-                at += row_size(st, at);
-            }
-            Order::Equal => {
+    // Kept: how far a row goes is known once it is read; no range goes by such steps.
+    while at < end {
+        match compare(key_at(st, at), key) {
+            Ordering::Less => at += row_size(st, at),
+            Ordering::Equal => {
                 return Place {
                     at,
                     len: row_size(st, at),
                 };
             }
-            Order::Greater => {
-                return Place { at, len: 0 };
-            }
+            Ordering::Greater => return Place { at, len: 0 },
         }
     }
     Place { at, len: 0 }
@@ -92,9 +94,8 @@ pub fn look_up<'a>(st: &'a [u8], index: &[usize], key: &[u8]) -> &'a [u8]
     requires { (store_fine st.now ≡ true) × (Indexes (store_of st.now) index.now) }
     ensures { result.now ≡ body_found st.now key.now }
 {
-    let place = find(st, index, key);
-    let at = place.at;
-    let len = place.len;
+    let Place { at, len } = find(st, index, key);
+    // Kept: an absent key has an empty body, as the definition `body` says.
     if len == 0 {
         return &st[..0];
     }
@@ -105,25 +106,16 @@ pub fn look_up<'a>(st: &'a [u8], index: &[usize], key: &[u8]) -> &'a [u8]
 pub fn row_count(size: usize) -> usize
     ensures { (result ≡ row_count size) × (result ≤ 1) }
 {
-    if size == 0 { 0 } else { 1 }
+    usize::from(size != 0)
 }
 
-// Whether a store of `used` bytes and `count` entries, in a room of `room` bytes, is within its
-// limits once a row of `old` bytes is taken out and one of `new` bytes put in; 0 stands for no row.
-fn fits_with(room: usize, used: usize, count: usize, old: usize, new: usize) -> bool
-    requires { Exchange room used count old new }
-    ensures { result ≡ fits_with room used count old new }
-{
-    if room + old < used + new {
-        return false;
-    }
-    count + row_count(new) <= 1024 + row_count(old)
-}
-
-// The same of the store that the region holds.
+// Whether the store that the region holds is within its limits once a row of `old` bytes is taken
+// out of it and one of `new` bytes put in; 0 stands for no row.
+#[tactic(auto, using(crate::proofs::Region::bounds), unfolding(crate::specs::Operation::fits_with))]
 pub fn fits(st: &[u8], old: usize, new: usize) -> bool
     requires { Replacement st.now old new }
     ensures { result ≡ store_fits_with st.now old new }
 {
-    fits_with(st.len() - 8, u32_at(st, 0), u32_at(st, 4), old, new)
+    let room = st.len() - 8;
+    used(st) + new <= room + old && count(st) + row_count(new) <= 1024 + row_count(old)
 }

@@ -4,7 +4,7 @@ ghost use Rattle.std.proofs.lemmas.List.Edits.{sets};
 ghost use Rattle.octets.specs.Part.{part};
 ghost use Rattle.store.specs.Row.{row_size, key_of, body_of, row_fine, row_bytes};
 
-use octets::{copy, min, put_u16, put_u32, u16_at, u32_at};
+use octets::{copy, number_at, put_number};
 
 // Whether a row stands at index i. No byte of the value is read.
 #[tactic(auto, using(crate::proofs::RowLaws::row_tests), unfolding(crate::specs::Row::row_fine))]
@@ -15,28 +15,20 @@ pub fn is_row(s: &[u8], i: usize) -> bool
     if s.len() - i < 8 {
         return false;
     }
-    let body = u32_at(s, i);
-    let key = u16_at(s, i + 4);
+    let body = number_at::<4>(s, i);
+    let key = number_at::<2>(s, i + 4);
     // The body ends within s and has at most 65535 bytes: the smaller of the two bounds is both.
-    let most = min(s.len() - i - 7, 65535);
-    if most < body {
-        return false;
-    }
-    if body <= key {
-        return false;
-    }
-    if s[i + 6] != 0 {
-        return false;
-    }
-    s[i + 7 + key] == 0
+    let most = (s.len() - i - 7).min(65535);
+    body <= most && key < body && s[i + 6] == 0 && s[i + 7 + key] == 0
 }
 
 // The size of the row at index i.
+#[tactic(auto, using(crate::proofs::RowLaws::row_parts))]
 pub fn size(s: &[u8], i: usize) -> usize
     requires { row_fine (drop i s.now) ≡ true }
     ensures { result ≡ row_size (drop i s.now) }
 {
-    7 + u32_at(s, i)
+    7 + number_at::<4>(s, i)
 }
 
 // n bytes from the start of the body of the row at index i, a part of s.
@@ -44,25 +36,25 @@ fn front_of_body(s: &[u8], i: usize, n: usize) -> &[u8]
     requires { i + 7 + n ≤ length s.now }
     ensures { result.now ≡ part s.now (i + 7) n }
 {
-    let a = i + 7;
-    let e = a + n;
-    &s[a..e]
+    &s[i + 7..i + 7 + n]
 }
 
 // The key of the row at index i, a part of s.
+#[tactic(auto, using(crate::proofs::RowLaws::row_parts))]
 pub fn key(s: &[u8], i: usize) -> &[u8]
     requires { row_fine (drop i s.now) ≡ true }
     ensures { result.now ≡ key_of (drop i s.now) }
 {
-    front_of_body(s, i, u16_at(s, i + 4))
+    front_of_body(s, i, number_at::<2>(s, i + 4))
 }
 
 // The body of the row at index i, a part of s: key, NUL and value.
+#[tactic(auto, using(crate::proofs::RowLaws::row_parts))]
 pub fn body(s: &[u8], i: usize) -> &[u8]
     requires { row_fine (drop i s.now) ≡ true }
     ensures { result.now ≡ body_of (drop i s.now) }
 {
-    front_of_body(s, i, u32_at(s, i))
+    front_of_body(s, i, number_at::<4>(s, i))
 }
 
 // Stores at index i the row of this body, whose key has `key` bytes.
@@ -70,8 +62,8 @@ pub fn write(s: &mut [u8], i: usize, body: &[u8], key: usize)
     requires { i + (7 + length body.now) ≤ length s.old }
     ensures { s.new ≡ sets s.old i (row_bytes key body.now) }
 {
-    put_u32(s, i, body.len());
-    put_u16(s, i + 4, key);
+    put_number::<4>(s, i, body.len());
+    put_number::<2>(s, i + 4, key);
     s[i + 6] = 0;
     copy(s, i + 7, body);
 }

@@ -7,33 +7,17 @@ ghost use Rattle.octets.specs.Part.{part};
 ghost use Rattle.store.specs.Region.{headed};
 ghost use Rattle.store.specs.Operation.{WritableAt, PresentAt, Becomes, Written, DeletedAt};
 
-use crate::reading::row_count;
+use crate::reading::{count, row_count, used};
 use crate::row;
-use octets::{move_down, move_up, put_u32, u32_at};
-
-// Moves the len bytes from index `from` on to index `to`. Where they are there already, nothing is
-// moved.
-fn shift(s: &mut [u8], from: usize, len: usize, to: usize)
-    requires { (from + len ≤ length s.old) × (to + len ≤ length s.old) }
-    ensures { s.new ≡ sets s.old to (part s.old from len) }
-{
-    if from == to {
-        return;
-    }
-    if from < to {
-        move_up(s, from, len, to - from);
-    } else {
-        move_down(s, from, len, from - to);
-    }
-}
+use octets::{move_bytes, put_number};
 
 // Stores the head of the region.
 fn put_head(st: &mut [u8], used: usize, count: usize)
     requires { 8 ≤ length st.old }
     ensures { st.new ≡ headed st.old used count }
 {
-    put_u32(st, 0, used);
-    put_u32(st, 4, count);
+    put_number::<4>(st, 0, used);
+    put_number::<4>(st, 4, count);
 }
 
 // Makes the region the empty store.
@@ -47,27 +31,30 @@ pub fn clear(st: &mut [u8])
 // Gives the payload's key the payload's value, where the place of the key is known: its row is at
 // offset `at` and `old` bytes long, 0 where the key is absent. The payload is a key of `key` bytes,
 // NUL and a value.
+// Kept: the row's place and size stay apart, as `WritableAt` and a COMMIT's tally count by sizes.
+#[tactic(auto, using(crate::proofs::Change::changes))]
 pub fn write_at(st: &mut [u8], at: usize, old: usize, payload: &[u8], key: usize)
     requires { WritableAt st.old payload.now key at old }
     ensures { Written st.old st.new payload.now key }
 {
-    let used = u32_at(st, 0);
-    let count = u32_at(st, 4);
+    let used = used(st);
+    let count = count(st);
     let new = 7 + payload.len();
     let behind = used - (at + old);
-    shift(st, 8 + at + old, behind, 8 + at + new);
+    move_bytes(st, 8 + at + old, behind, 8 + at + new);
     row::write(st, 8 + at, payload, key);
     put_head(st, at + new + behind, count + 1 - row_count(old));
 }
 
 // Takes out the row of `old` bytes at offset `at`, which is some key's.
+#[tactic(auto, using(crate::proofs::Change::changes))]
 pub fn delete_at(st: &mut [u8], at: usize, old: usize)
     requires { PresentAt st.old at old }
     ensures { DeletedAt at old st.old st.new }
 {
-    let used = u32_at(st, 0);
-    let count = u32_at(st, 4);
+    let used = used(st);
+    let count = count(st);
     let behind = used - (at + old);
-    shift(st, 8 + at + old, behind, 8 + at);
+    move_bytes(st, 8 + at + old, behind, 8 + at);
     put_head(st, at + behind, count - 1);
 }

@@ -6,14 +6,15 @@ use Prim.Native.Nat.{ℕ, zero, suc, ◌+◌, ◌*◌, ◌≤◌, ◌<◌}
 use native.Mathlib.Nat.{add-zero}
 use native.Mathlib.Omega.{arith}
 use lib.Dec.{eqb, leb}
-use lib.ListN.{length, drop, get_or}
+use lib.ListN.{length, drop}
 use lib.Seq.{sets, sets-eq, drop-drop, take-append_seam}
 use borrow.Author.Tests.{eqb-true, eq-eqb, leb-true, le-leb}
 use Rattle.octets.specs.Octets.{Bytes}
 use Rattle.octets.specs.Part.{part}
+use Rattle.octets.specs.Number.{number_at}
 use Rattle.octets.specs.Table.{rows}
-use Rattle.octets.proofs.Parts.{part-part, get_d_part}
 use Rattle.octets.proofs.Tables.{length-rows}
+use Rattle.subscriptions.specs.Promises.{CellOf}
 use Rattle.subscriptions.specs.Region.{cell, cell_at, count_of, patterns_of, subscriptions_fine}
 
 -- ---- the rules
@@ -40,16 +41,25 @@ pub length-patterns_of : (s : Bytes) → length (patterns_of s) ≡ count_of s
 unfolding patterns_of
 length-patterns_of s = length-rows cell 256 (count_of s) (drop 4 s)
 
+pub fine-size : (s : Bytes) → subscriptions_fine s ≡ true → length s ≡ 4100
+fine-size s h = (fine-rules h).size
+
+pub few-patterns : (s : Bytes) → subscriptions_fine s ≡ true → length (patterns_of s) ≤ 16
+few-patterns s h = omega (arith, length-patterns_of s, (fine-rules h).few)
+
+pub number-patterns : (s : Bytes) (n : ℕ) → n ≡ number_at 4 s 0 → n ≡ length (patterns_of s)
+unfolding count_of
+number-patterns s n e = e ∙ sym (length-patterns_of s)
+
+-- what the readers of the number of patterns rest on
+pub ruleset sizes = (fine-size, few-patterns, number-patterns)
+
 -- ---- one cell
 
--- the cell as code reads it
-pub cell_at-part : (s : Bytes) (i : ℕ) → get_or s (4 + i * 256) 0 < 256
-    → cell_at s i ≡ part s (4 + i * 256 + 1) (get_or s (4 + i * 256) 0)
-unfolding cell_at cell
-cell_at-part s i h =
-    let at : ℕ = 4 + i * 256 in
-    let e : get_or (part s at 256) 0 0 ≡ get_or s at 0 = rw (add-zero at) at (get_d_part s at 256 0 (omega arith)) in
-    rw e (part-part s at 256 1 (get_or s at 0) (omega arith))
+pub cell_of : (s : Bytes) (i : ℕ) → subscriptions_fine s ≡ true → i < length (patterns_of s) → CellOf s i
+cell_of s i h l =
+    let w = fine-rules h in
+    record { size = w.size; index = omega (arith, w.few, length-patterns_of s) }
 
 -- a length byte and a pattern, whatever stands behind
 pub cell-sets : (c p : Bytes) → length p + 1 ≤ length c → cell (sets c 0 (length p ∷ p)) ≡ p

@@ -1,8 +1,9 @@
 -- Decimal digits from a place on.
-use mathlib.Core.Path.{◌≡◌, refl}
+use mathlib.Core.Path.{◌≡◌, refl, ◌∙◌}
+use mathlib.Core.Logic.{inl, inr}
 use mathlib.Core.List.{[], ◌∷◌}
 use mathlib.Core.Bool.{Bool, true, false, ◌&&◌}
-use mathlib.Core.Option.{Option, none, some}
+use mathlib.Core.Option.{none, some}
 use Prim.Native.Nat.{ℕ, ◌+◌, ◌-◌, ◌*◌, ◌≤◌, ◌<◌}
 use native.Mathlib.Numerals.{add-one}
 use native.Mathlib.Nat.{le_refl}
@@ -11,10 +12,9 @@ use lib.Dec.{ltb}
 use lib.ListN.{length, get_or, drop, drop_of_length-le}
 use lib.Seq.{drop-cons}
 use borrow.Author.Tests.{lt-ltb, le-ltb, le-leb, lt-leb}
+use Rattle.std.specs.Char.{IsNotAsciiDigit}
 use Rattle.octets.specs.Octets.{Bytes}
 use Rattle.text.specs.Payload.{decimal, all_digits, number_from}
-use Rattle.text.specs.PayloadPost.{number_of}
-use Rattle.text.specs.declared.payloads.Number.TheVariants.{Is, Bad}
 
 and-false : (a b : Bool) → b ≡ false → (a && b) ≡ false
 and-false true b e = e
@@ -37,26 +37,21 @@ module _ (s : Bytes) (i n : ℕ) where
   unfolding number_from all_digits decimal
   number-on h a b = rw (add-one i, drop-cons s i 0 h, le-leb _ _ a, lt-ltb _ _ b)
 
-  pub number-low : i < length s → get_or s i 0 < 48 → number_from n (drop i s) ≡ none
-  unfolding number_from all_digits
-  number-low h a = rw (drop-cons s i 0 h, lt-leb _ _ a)
+  pub number-over : i < length s → 48 ≤ get_or s i 0 → get_or s i 0 < 58 → 256 ≤ n * 10 + (get_or s i 0 - 48)
+      → number_from n (drop i s) ≡ none
+  number-over h a b c = number-on h a b ∙ number-big _ _ c
 
-  pub number-high : i < length s → 58 ≤ get_or s i 0 → number_from n (drop i s) ≡ none
+  pub number-other : i < length s → IsNotAsciiDigit (get_or s i 0) → number_from n (drop i s) ≡ none
   unfolding number_from all_digits
-  number-high h a =
+  number-other h (inl a) = rw (drop-cons s i 0 h, lt-leb _ _ a)
+  number-other h (inr a) =
       let b : 48 ≤ get_or s i 0 = omega arith in
-      rw (drop-cons s i 0 h, le-leb _ _ b, le-ltb _ _ a)
+      let c : 58 ≤ get_or s i 0 = omega arith in
+      rw (drop-cons s i 0 h, le-leb _ _ b, le-ltb _ _ c)
 
   pub number-end : length s ≤ i → n < 256 → number_from n (drop i s) ≡ some n
   unfolding number_from all_digits decimal
   number-end h a = rw (drop_of_length-le, lt-ltb _ _ a)
 
--- ---- a number as the code reports it
-
-pub number_is : (o : Option ℕ) (b : ℕ) → number_of o ≡ Is b → o ≡ some b
-number_is none b e = let z : ◌≡◌ {A = ℕ} 0 1 = cc in absurd (omega arith)
-number_is (some x) b e = cc
-
-pub number-bad : (o : Option ℕ) → number_of o ≡ Bad → o ≡ none
-number-bad none e = refl
-number-bad (some x) e = let z : ◌≡◌ {A = ℕ} 0 1 = cc in absurd (omega arith)
+-- what a byte makes of the number so far, for the tactics
+pub ruleset numbers = (number-on, number-over, number-other, number-end)

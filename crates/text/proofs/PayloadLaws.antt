@@ -6,140 +6,262 @@ use mathlib.Core.Option.{Option, none, some, map}
 use Prim.Native.Nat.{ℕ, suc, ◌+◌, ◌-◌, ◌≤◌, ◌<◌}
 use native.Mathlib.Numerals.{add-one}
 use native.Mathlib.Omega.{arith}
-use lib.Dec.{eqb, leb}
-use lib.ListN.{length, set, get_or, drop, take, drop_of_length-le, length-append, length-drop}
+use lib.Dec.{eqb}
+use lib.ListN.{length, set, get_or, drop, take, length-append, length-drop}
 use lib.Seq.{drop-cons, sets, length-take-le}
-use borrow.Author.Tests.{ne_eqb, leb-true, leb-false}
+use borrow.Author.Tests.{ne_eqb, eqb-true, eqb-false}
+use Rattle.std.proofs.Common.{None, Some, Result, Ok, Err}
+use Rattle.std.proofs.Common as Code
+use Rattle.std.specs.Option.{ok_or, unwrap_or}
 use Rattle.octets.specs.Octets.{Bytes, has_nul}
+use Rattle.octets.specs.Options.{in_code}
 use Rattle.octets.proofs.Laws.{sets-append, set-sets}
-use Rattle.text.specs.Fields.{word, after_word, Scan, malformed, scanned, quoted, Field, plain, in_quotes}
+use Rattle.text.specs.Fields.{trim, word, after_word, Scan, malformed, scanned, quoted, Field, plain, in_quotes}
 use Rattle.text.specs.Fields.{bytes_of, Next, ended, faulty, field, of_scan, starting, next, followed, fields}
-use Rattle.text.specs.Payload.{number_from, by_count, not_one, not_two, the_field, keyed, version, hello_payload}
-use Rattle.text.specs.Payload.{write_payload}
+use Rattle.text.specs.Payload.{all_digits, number_from, by_count, not_one, not_two, the_field, keyed, version}
+use Rattle.text.specs.Payload.{hello_payload}
+use Rattle.text.specs.Payload.{one_payload, write_payload, ping_payload}
 use Rattle.text.specs.Line.{made, payload_of}
-use Rattle.text.specs.FieldPost.{Skipped, Spelled, is_ended, FoundAs, FoundAt, ScannedAt}
-use Rattle.text.specs.PayloadPost.{VersionAs, BuildsAs, Fails, has_field, has_version, value_payload, number_of}
-use Rattle.text.specs.declared.fields.Found.{Found}
-use Rattle.text.specs.declared.fields.Found.TheVariants.{Nothing, Faulty, Field as Field1}
-use Rattle.text.specs.declared.payloads.Number.TheVariants.{Is, Bad}
-use Rattle.text.proofs.NumberLaws.{number_is, number-bad}
+use Rattle.text.specs.FieldPost.{Skipped, Spelled, is_ended, FoundAs, ScannedAs, LastAs, LastAt}
+use Rattle.text.specs.PayloadPost.{VersionAs, BuildsAs, Fails, BuildsLine, has_field, has_version, value_payload}
+use Rattle.text.specs.declared.fields.Malformed.{Malformed}
+use Rattle.text.proofs.ScanLaws.{given_some, given_none}
 
 -- ---- what comes next, from a place on
 
+pub next-none : (s : Bytes) → trim s ≡ [] → next s ≡ ended
+unfolding next starting
+next-none s h = rw h
+
 module _ {line : Bytes} {at i : ℕ} (k : Skipped line at i) where
-  pub next-none : length line ≤ i → next (drop at line) ≡ ended
+  pub next-quoted : get_or line i 0 ≡ 34 → next (drop at line) ≡ of_scan (quoted (drop (i + 1) line))
   unfolding next starting
-  next-none h = rw (k.is, drop_of_length-le line h)
+  next-quoted e = rw (k.is, add-one i, drop-cons line i 0 k.within, e)
 
-  pub next-quoted : i < length line → get_or line i 0 ≡ 34 → next (drop at line) ≡ of_scan (quoted (drop (i + 1) line))
-  unfolding next starting
-  next-quoted h e = rw (k.is, add-one i, drop-cons line i 0 h, e)
-
-  pub next-plain : {e : ℕ} → i < length line → (get_or line i 0 ≡ 34 → ⊥) → Spelled line i e
+  pub next-plain : {e : ℕ} → (get_or line i 0 ≡ 34 → ⊥) → Spelled line i e
       → next (drop at line) ≡ field (plain (take (e - i) (drop i line))) (drop e line)
   unfolding next starting
-  next-plain {e} h n w = rw (← w.is, ← w.rest, k.is, drop-cons line i 0 h, ne_eqb _ _ n)
+  next-plain {e} n w = rw (← w.is, ← w.rest, k.is, drop-cons line i 0 k.within, ne_eqb _ _ n)
 
   not-ended : (b : Bool) (q : Scan) (x : Field) (r : Bytes) → is_ended (cond b (of_scan q) (field x r)) ≡ false
   not-ended true malformed x r = refl
   not-ended true (scanned v t) x r = refl
   not-ended false q x r = refl
 
-  ended_by : (b : Bool) → leb (length line) i ≡ b → b ≡ is_ended (next (drop at line))
+  pub next-some : is_ended (next (drop at line)) ≡ false
   unfolding next starting
-  ended_by true e = let h = leb-true (length line) i e in rw (k.is, drop_of_length-le line h)
-  ended_by false e =
-      let h = leb-false (length line) i e in
-      rw (k.is, drop-cons line i 0 h)
-      (sym (not-ended (eqb (get_or line i 0) 34) (quoted (drop (suc i) line))
-      (plain (word (get_or line i 0 ∷ drop (suc i) line))) (after_word (get_or line i 0 ∷ drop (suc i) line))))
+  next-some =
+      rw (k.is, drop-cons line i 0 k.within)
+      (not-ended (eqb (get_or line i 0) 34) (quoted (drop (suc i) line))
+      (plain (word (get_or line i 0 ∷ drop (suc i) line))) (after_word (get_or line i 0 ∷ drop (suc i) line)))
 
-  pub is-ended : leb (length line) i ≡ is_ended (next (drop at line))
-  is-ended = ended_by (leb (length line) i) refl
+  -- ---- the next field, as it is read
 
--- ---- payloads by what comes next
+  pub found-quoted : {n q : ℕ} {nul : Bool} {buf : Bytes} {to : ℕ} {buf' : Bytes} → get_or line i 0 ≡ 34
+      → ScannedAs (quoted (drop (i + 1) line)) line (i + 1) n q nul buf to buf' → FoundAs line at n q nul buf to buf'
+  found-quoted e s = record {
+    value = in_quotes s.value;
+    is = next-quoted e ∙ rw s.is;
+    stored = s.stored;
+    within = s.within;
+    short = omega (arith, s.short, k.on);
+  }
+
+  pub found-bad : get_or line i 0 ≡ 34 → quoted (drop (i + 1) line) ≡ malformed → next (drop at line) ≡ faulty
+  found-bad e s = next-quoted e ∙ rw s
+
+  module _ {e : ℕ} (p : get_or line i 0 ≡ 34 → ⊥) (w : Spelled line i e) where
+    pub found_plain : (buf : Bytes) (to : ℕ) (nul : Bool) (buf' : Bytes)
+        → nul ≡ has_nul (take (e - i) (drop i line)) → buf' ≡ sets buf to (take (e - i) (drop i line))
+        → FoundAs line at (length (take (e - i) (drop i line))) e nul buf to buf'
+    found_plain buf to nul buf' g h =
+        let on = w.place.on in
+        let within = w.place.within in
+        let b : e - i ≤ length (drop i line) = simp length-drop (omega arith) in
+        record {
+          value = plain (take (e - i) (drop i line));
+          is = next-plain p w;
+          stored = record { count = refl; nuls = g; held = h };
+          within = within;
+          short = omega (arith, k.on, length-take-le (e - i) (drop i line) b);
+        }
+
+-- ---- at most one field
 
 no : {A : Type 0} → true ≡ false → A
 no e = let z : ◌≡◌ {A = ℕ} 0 1 = cc in absurd (omega arith)
 
-pub ended_is : (z : Next) → is_ended z ≡ true → z ≡ ended
-ended_is ended l = refl
-ended_is faulty l = no (sym l)
-ended_is (field y q) l = no (sym l)
-
-module _ (a : Option Bytes) (f : Field → Option Bytes) (g : Field → Field → Option Bytes) (s : Bytes) where
-  pay-none : next s ≡ ended → payload_of (by_count a f g) s ≡ a
-  unfolding payload_of fields by_count
-  pay-none e = rw e
-
-  pay-bad : next s ≡ faulty → payload_of (by_count a f g) s ≡ none
-  unfolding payload_of fields
-  pay-bad e = rw e
-
-  pub pay-one : {x : Field} {r : Bytes} → next s ≡ field x r → is_ended (next r) ≡ true
-      → payload_of (by_count a f g) s ≡ f x
-  unfolding payload_of fields by_count
-  pay-one {x} {r} e h = rw (e, ended_is (next r) h)
-
-  pub pay-one-bad : {x : Field} {r : Bytes} → next s ≡ field x r → next r ≡ faulty
-      → payload_of (by_count a f g) s ≡ none
-  unfolding payload_of fields
-  pay-one-bad e h = rw (e, h)
-
-  pub pay-two : {x y : Field} {r q : Bytes} → next s ≡ field x r → next r ≡ field y q → is_ended (next q) ≡ true
-      → payload_of (by_count a f g) s ≡ g x y
-  unfolding payload_of fields by_count
-  pay-two {x} {y} {r} {q} e h l = rw (e, h, ended_is (next q) l)
-
-  pub pay-two-more : {x y : Field} {r q : Bytes} → next s ≡ field x r → next r ≡ field y q → is_ended (next q) ≡ false
-      → payload_of (by_count a f g) s ≡ none
-  unfolding payload_of fields
-  pay-two-more {x} {y} {r} {q} e h l = rw (e, h) (more (next q) l)
-    where
-      more : (z : Next) → is_ended z ≡ false
-          → made (by_count a f g) (map (◌∷◌ x) (map (◌∷◌ y) (followed z (λ rest. none)))) ≡ none
-      more ended l = no l
-      more faulty l = refl
-      more (field z t) l = refl
-
--- a second field where one is too many
-pub pay-one-more : (a : Option Bytes) (f : Field → Option Bytes) (s : Bytes) {x : Field} {r : Bytes}
-    → next s ≡ field x r → is_ended (next r) ≡ false
-    → payload_of (by_count a f not_two) s ≡ none
-unfolding payload_of fields by_count
-pay-one-more a f s {x} {r} e h = rw e (more (next r) h)
-  where
-    last : (y : Field) (z : Next) → made (by_count a f not_two)
-        (map (◌∷◌ x) (map (◌∷◌ y) (followed z (λ rest. none)))) ≡ none
-    last y ended = refl
-    last y faulty = refl
-    last y (field z t) = refl
-
-    more : (z : Next) → is_ended z ≡ false
-        → made (by_count a f not_two) (map (◌∷◌ x) (followed z (fields 0))) ≡ none
-    more ended l = no l
-    more faulty l = refl
-    more (field y t) l = last y (next t)
-
--- a field where none may be
-pub pay-more : (a : Option Bytes) (s : Bytes) → is_ended (next s) ≡ false
-    → payload_of (by_count a not_one not_two) s ≡ none
-pay-more a s h = more (next s) refl h
-  where
-    rest : (x : Field) (r : Bytes) → next s ≡ field x r → (b : Bool) → is_ended (next r) ≡ b
-        → payload_of (by_count a not_one not_two) s ≡ none
-    rest x r e true l = pay-one a not_one not_two s e l
-    rest x r e false l = pay-one-more a not_one s e l
-
-    more : (z : Next) → next s ≡ z → is_ended z ≡ false → payload_of (by_count a not_one not_two) s ≡ none
-    more ended e l = no l
-    more faulty e l = pay-bad a not_one not_two s e
-    more (field x r) e l = rest x r e (is_ended (next r)) refl
-
--- WRITE: a key x, and o, the fields after it
-
 none-some : {A : Type 0} {B : Type 0} {v : B} → ◌≡◌ {A = Option B} none (some v) → A
 none-some e = let z : ◌≡◌ {A = ℕ} 0 1 = cc in absurd (omega arith)
+
+module _ (s : Bytes) where
+  pub no-field : next s ≡ ended → fields 1 s ≡ some []
+  unfolding fields
+  no-field e = rw e
+
+  pub bad-field : next s ≡ faulty → fields 1 s ≡ none
+  unfolding fields
+  bad-field e = rw e
+
+  pub the-last : {x : Field} {r : Bytes} → next s ≡ field x r → is_ended (next r) ≡ true → fields 1 s ≡ some (x ∷ [])
+  unfolding fields
+  the-last {x} {r} e h = rw e (by (next r) h)
+    where
+      by : (z : Next) → is_ended z ≡ true → map (◌∷◌ x) (followed z (λ rest. none)) ≡ some (x ∷ [])
+      by ended l = refl
+      by faulty l = no (sym l)
+      by (field y q) l = no (sym l)
+
+  pub one-more : {x : Field} {r : Bytes} → next s ≡ field x r → is_ended (next r) ≡ false → fields 1 s ≡ none
+  unfolding fields
+  one-more {x} {r} e h = rw e (by (next r) h)
+    where
+      by : (z : Next) → is_ended z ≡ false → map (◌∷◌ x) (followed z (λ rest. none)) ≡ none
+      by ended l = no l
+      by faulty l = refl
+      by (field y q) l = refl
+
+  -- where a field is surplus or malformed, one comes
+  one-comes : fields 1 s ≡ none → has_field (next s) ≡ true
+  one-comes h = by (next s) refl
+    where
+      by : (z : Next) → next s ≡ z → has_field z ≡ true
+      by ended e = none-some (sym h ∙ no-field e)
+      by faulty e = refl
+      by (field x r) e = refl
+
+  -- two fields are as bad as more where one is too many
+  at_most_one : (a : Option Bytes) (f : Field → Option Bytes)
+      → payload_of (by_count a f not_two) s ≡ made (by_count a f not_two) (fields 1 s)
+  unfolding payload_of fields by_count
+  at_most_one a f = by (next s)
+    where
+      third : (x y : Field) (z : Next)
+          → made (by_count a f not_two) (map (◌∷◌ x) (map (◌∷◌ y) (followed z (λ rest. none)))) ≡ none
+      third x y ended = refl
+      third x y faulty = refl
+      third x y (field u t) = refl
+
+      second : (x : Field) (z : Next) → made (by_count a f not_two) (map (◌∷◌ x) (followed z (fields 0)))
+          ≡ made (by_count a f not_two) (map (◌∷◌ x) (followed z (λ rest. none)))
+      second x ended = refl
+      second x faulty = refl
+      second x (field y q) = third x y (next q)
+
+      by : (z : Next) → made (by_count a f not_two) (followed z (fields 1))
+          ≡ made (by_count a f not_two) (followed z (fields 0))
+      by ended = refl
+      by faulty = refl
+      by (field x r) = second x (next r)
+
+-- the fields after the first
+rest_of : (h : List Field → Option Bytes) (s : Bytes) {x : Field} {r : Bytes} → next s ≡ field x r
+    → payload_of h s ≡ made h (map (◌∷◌ x) (fields 1 r))
+unfolding payload_of fields
+rest_of h s e = rw e
+
+-- ---- what the functions build
+
+-- no payload, where a byte can have been stored
+fails : {p : Option Bytes} {stored : Bool} {buf buf' : Bytes} → p ≡ none → stored ≡ true → Fails p stored buf buf'
+fails e h = record { is = e; same = λ q. no (sym h ∙ q) }
+
+-- ---- BEGIN, COMMIT
+
+pub none-built : (f : Field → Option Bytes) (g : Field → Field → Option Bytes) (s : Bytes) (most : ℕ) (buf : Bytes)
+    → is_ended (next s) ≡ true → BuildsAs (payload_of (by_count (some []) f g) s) most buf 0 0 buf
+unfolding payload_of fields by_count
+none-built f g s most buf e = record
+    { value = []; is = by (next s) e; count = refl; held = refl; short = omega arith }
+  where
+    by : (z : Next) → is_ended z ≡ true → made (by_count (some []) f g) (followed z (fields 1)) ≡ some []
+    by ended l = refl
+    by faulty l = no (sym l)
+    by (field x r) l = no (sym l)
+
+-- a field where none may be
+pub none-bad : (a : Option Bytes) (s : Bytes) (buf : Bytes) → is_ended (next s) ≡ false
+    → Fails (payload_of (by_count a not_one not_two) s) false buf buf
+unfolding payload_of fields by_count
+none-bad a s buf e = record { is = by (next s) e; same = λ q. refl }
+  where
+    more : (x : Field) (o : Option (List Field)) → made (by_count a not_one not_two) (map (◌∷◌ x) o) ≡ none
+    more x none = refl
+    more x (some []) = refl
+    more x (some (y ∷ [])) = refl
+    more x (some (y ∷ z ∷ t)) = refl
+
+    by : (z : Next) → is_ended z ≡ false → made (by_count a not_one not_two) (followed z (fields 1)) ≡ none
+    by ended l = no l
+    by faulty l = refl
+    by (field x r) l = more x (fields 1 r)
+
+-- ---- SUB, UNSUB, READ, PING
+
+module _ (line : Bytes) (at : ℕ) (buf buf' : Bytes) where
+  pub one_fails : (a : Option Bytes) → fields 1 (drop at line) ≡ none
+      → Fails (payload_of (by_count a the_field not_two) (drop at line)) (has_field (next (drop at line))) buf buf'
+  one_fails a e = fails (at_most_one (drop at line) a the_field ∙ rw e) (one-comes (drop at line) e)
+
+  one-is : (a : Option Bytes) {n : ℕ} (w : LastAs line at n buf 0 buf')
+      → BuildsAs (payload_of (by_count a the_field not_two) (drop at line)) (length line + 1) buf 0 n buf'
+  unfolding by_count
+  one-is a w = record {
+    value = bytes_of w.value;
+    is = at_most_one (drop at line) a the_field ∙ rw w.is;
+    count = w.count;
+    held = w.held;
+    short = omega (arith, w.short);
+  }
+
+  pub one-built : (o : Code.Option ℕ) (m : Malformed) → LastAt line at buf 0 (Ok o) buf'
+      → BuildsLine one_payload has_field line at buf (ok_or o m) buf'
+  unfolding by_count
+  one-built None m w = record {
+    is = at_most_one (drop at line) none the_field ∙ rw (no-field (drop at line) w.0);
+    same = λ e. w.1;
+  }
+  one-built (Some n) m w = one-is none w
+
+  pub ping-built : (o : Code.Option ℕ) → LastAt line at buf 0 (Ok o) buf'
+      → BuildsLine ping_payload has_field line at buf (Ok (unwrap_or o 0)) buf'
+  unfolding by_count
+  ping-built None w = record {
+    value = [];
+    is = at_most_one (drop at line) (some []) the_field ∙ rw (no-field (drop at line) w.0);
+    count = refl;
+    held = w.1;
+    short = omega arith;
+  }
+  ping-built (Some n) w = one-is (some []) w
+
+-- ---- WRITE: what follows the key
+
+pub value_none : (s : Bytes) (most : ℕ) (buf : Bytes) (len : ℕ) (buf' : Bytes) → next s ≡ ended → buf' ≡ buf
+    → BuildsAs (made value_payload (fields 1 s)) most buf len 0 buf'
+unfolding by_count
+value_none s most buf len buf' e k = record
+    { value = []; is = rw (no-field s e); count = refl; held = k; short = omega arith }
+
+pub value-bad : (s : Bytes) {buf buf' : Bytes} → fields 1 s ≡ none
+    → Fails (made value_payload (fields 1 s)) true buf buf'
+value-bad s e = fails (rw e) refl
+
+pub value-built : (len : ℕ) {line : Bytes} {at n : ℕ} {buf buf' : Bytes} (w : LastAs line at n buf (len + 1) buf')
+    (buf'' : Bytes) → buf'' ≡ set buf' len 0
+    → BuildsAs (made value_payload (fields 1 (drop at line))) (length line + 1 - at) buf len (1 + n) buf''
+unfolding by_count
+value-built len {line} {at} {n} {buf} w buf'' e =
+    let k : len < len + 1 = omega arith in
+    record {
+      value = 0 ∷ bytes_of w.value;
+      is = rw w.is;
+      count = omega (arith, w.count);
+      held = e ∙ rw (w.held, set-sets buf len (len + 1) 0 (bytes_of w.value) k, add-one len);
+      short = omega (arith, w.short);
+    }
+
+-- ---- WRITE: a key x, and o, the fields after it
 
 module _ (x : Field) where
   abbrev written : Option (List Field) → Option Bytes
@@ -168,50 +290,17 @@ module _ (x : Field) where
   bad-rest (some (v ∷ [])) e = none-some (sym e)
   bad-rest (some (v ∷ u ∷ t)) e = refl
 
--- the fields after the first
-rest_of : (h : List Field → Option Bytes) (s : Bytes) {x : Field} {r : Bytes} → next s ≡ field x r
-    → payload_of h s ≡ made h (map (◌∷◌ x) (fields 1 r))
+pub write-missing : (s : Bytes) (buf buf' : Bytes) → next s ≡ ended → buf' ≡ buf
+    → Fails (payload_of write_payload s) (has_field (next s)) buf buf'
+unfolding payload_of fields by_count
+write-missing s buf buf' e k = record { is = rw e; same = λ q. k }
+
+pub write-faulty : (s : Bytes) {buf buf' : Bytes} → next s ≡ faulty
+    → Fails (payload_of write_payload s) (has_field (next s)) buf buf'
 unfolding payload_of fields
-rest_of h s e = rw e
-
--- ---- what the functions build
-
--- no payload, where a byte can have been stored
-fails : {p : Option Bytes} {stored : Bool} {buf buf' : Bytes} → p ≡ none → stored ≡ true → Fails p stored buf buf'
-fails e h = record { is = e; same = λ q. no (sym h ∙ q) }
-
-pub fails-missing : (f : Field → Option Bytes) (g : Field → Field → Option Bytes) (s : Bytes) (buf buf' : Bytes)
-    → next s ≡ ended → buf' ≡ buf
-    → Fails (payload_of (by_count none f g) s) (has_field (next s)) buf buf'
-fails-missing f g s buf buf' e k = record { is = pay-none none f g s e; same = λ q. k }
-
-pub fails-faulty : (a : Option Bytes) (f : Field → Option Bytes) (g : Field → Field → Option Bytes) (s : Bytes)
-    {buf buf' : Bytes}
-    → next s ≡ faulty → Fails (payload_of (by_count a f g) s) (has_field (next s)) buf buf'
-fails-faulty a f g s e = fails (pay-bad a f g s e) (rw e)
-
-pub nothing : (f : Field → Option Bytes) (g : Field → Field → Option Bytes) (s : Bytes) (most : ℕ) (buf buf' : Bytes)
-    → next s ≡ ended → buf' ≡ buf
-    → BuildsAs (payload_of (by_count (some []) f g) s) most buf 0 0 buf'
-nothing f g s most buf buf' e k = record
-    { value = []; is = pay-none (some []) f g s e; count = refl; held = k; short = omega arith }
+write-faulty s e = fails (rw e) (rw e)
 
 module _ {line : Bytes} {at n r : ℕ} {nul : Bool} {buf buf' : Bytes} (w : FoundAs line at n r nul buf 0 buf') where
-  pub one-built : (a : Option Bytes) → is_ended (next (drop r line)) ≡ true
-      → BuildsAs (payload_of (by_count a the_field not_two) (drop at line)) (length line + 1) buf 0 n buf'
-  one-built a e = record {
-    value = bytes_of w.value;
-    is = pay-one a the_field not_two (drop at line) w.is e;
-    count = w.stored.count;
-    held = w.stored.held;
-    short = omega (arith, w.short, w.within);
-  }
-
-  pub one_more : (a : Option Bytes) → is_ended (next (drop r line)) ≡ false
-      → Fails (payload_of (by_count a the_field not_two) (drop at line)) (has_field (next (drop at line))) buf buf'
-  one_more a e = fails (pay-one-more a the_field (drop at line) w.is e) (rw w.is)
-
-  -- WRITE: a key, and what follows it
   pub write-nul : nul ≡ true
       → Fails (payload_of write_payload (drop at line)) (has_field (next (drop at line))) buf buf'
   write-nul e =
@@ -238,44 +327,6 @@ module _ {line : Bytes} {at n r : ℕ} {nul : Bool} {buf buf' : Bytes} (w : Foun
       fails (rest_of write_payload (drop at line) w.is ∙ bad-rest w.value (fields 1 (drop r line)) v.is)
       (rw w.is)
 
--- WRITE: what follows the key
-
-pub value_none : (s : Bytes) (most : ℕ) (buf : Bytes) (len : ℕ) (buf' : Bytes) → next s ≡ ended → buf' ≡ buf
-    → BuildsAs (made value_payload (fields 1 s)) most buf len 0 buf'
-unfolding fields by_count
-value_none s most buf len buf' e k = record { value = []; is = rw e; count = refl; held = k; short = omega arith }
-
-pub value-bad : (s : Bytes) {buf buf' : Bytes} → next s ≡ faulty
-    → Fails (made value_payload (fields 1 s)) true buf buf'
-unfolding fields
-value-bad s e = fails (rw e) refl
-
-module _ (len : ℕ) {line : Bytes} {at n r : ℕ} {nul : Bool} {buf buf' : Bytes}
-    (w : FoundAs line at n r nul buf (len + 1) buf') where
-  pub value-built : (buf'' : Bytes) → buf'' ≡ set buf' len 0 → is_ended (next (drop r line)) ≡ true
-      → BuildsAs (made value_payload (fields 1 (drop at line))) (length line + 1 - at) buf len (1 + n) buf''
-  unfolding fields by_count
-  value-built buf'' e l =
-      let k : len < len + 1 = omega arith in
-      record {
-        value = 0 ∷ bytes_of w.value;
-        is = rw (w.is, ended_is (next (drop r line)) l);
-        count = omega (arith, w.stored.count);
-        held = e ∙ rw (w.stored.held, set-sets buf len (len + 1) 0 (bytes_of w.value) k, add-one len);
-        short = omega (arith, w.short, w.within);
-      }
-
-  pub value-more : {buf'' : Bytes} → is_ended (next (drop r line)) ≡ false
-      → Fails (made value_payload (fields 1 (drop at line))) true buf buf''
-  unfolding fields
-  value-more l = fails (rw w.is (more (next (drop r line)) l)) refl
-    where
-      more : (z : Next) → is_ended z ≡ false
-          → made value_payload (map (◌∷◌ w.value) (followed z (λ rest. none))) ≡ none
-      more ended l = no l
-      more faulty l = refl
-      more (field z t) l = refl
-
 -- ---- HELLO
 
 bad-version : (x : Field) (o : Option (List Field)) → version x ≡ none
@@ -291,90 +342,67 @@ pub hello-bad : (s : Bytes) (x : Field) (r : Bytes) → next s ≡ field x r →
 hello-bad s x r e h = rest_of hello_payload s e ∙ bad-version x (fields 1 r) h
 
 pub hello-quoted : (s : Bytes) (q : Scan) → next s ≡ of_scan q → payload_of hello_payload s ≡ none
-unfolding version
-hello-quoted s malformed e = pay-bad _ _ _ s e
+unfolding version payload_of fields
+hello-quoted s malformed e = rw e
 hello-quoted s (scanned v r) e = hello-bad s (in_quotes v) r e refl
 
 pub hello-none : (s : Bytes) (most : ℕ) (buf buf' : Bytes) → 1 ≤ most → next s ≡ ended → buf' ≡ set buf 0 0
     → BuildsAs (payload_of hello_payload s) most buf 0 1 buf'
+unfolding payload_of fields by_count
 hello-none s most buf buf' m e k = record
-    { value = 0 ∷ []; is = pay-none _ _ _ s e; count = refl; held = k; short = m }
+    { value = 0 ∷ []; is = rw e; count = refl; held = k; short = m }
 
-module _ {line : Bytes} {at v r : ℕ} (w : VersionAs line at v r) (buf buf' : Bytes) (k : buf' ≡ set buf 0 v) where
-  pub hello-version : (buf'' : Bytes) → next (drop r line) ≡ ended → buf'' ≡ buf'
-      → BuildsAs (payload_of hello_payload (drop at line)) (length line + 1) buf 0 1 buf''
-  hello-version buf'' e f = record {
+module _ {line : Bytes} {at v r : ℕ} (w : VersionAs line at v r) (buf buf' : Bytes) (k : buf' ≡ set buf 0 v)
+    (buf'' : Bytes) where
+  pub hello-fault : fields 1 (drop r line) ≡ none
+      → Fails (payload_of hello_payload (drop at line)) (has_version (next (drop at line))) buf buf''
+  hello-fault e = fails (rest_of hello_payload (drop at line) w.is ∙ rw e) (rw (w.is, w.number))
+
+  pub hello-built : (o : Code.Option ℕ) → LastAt line r buf' 1 (Ok o) buf''
+      → BuildsAs (payload_of hello_payload (drop at line)) (length line + 1) buf 0 (1 + unwrap_or o 0) buf''
+  unfolding by_count
+  hello-built None t = record {
     value = v ∷ [];
-    is = pay-one _ _ _ (drop at line) w.is (rw e) ∙ rw w.number;
+    is = rest_of hello_payload (drop at line) w.is ∙ rw (no-field (drop r line) t.0, w.number);
     count = refl;
-    held = f ∙ k;
+    held = t.1 ∙ k;
     short = omega arith;
   }
-
-  version-stored : has_version (next (drop at line)) ≡ true
-  version-stored = rw (w.is, w.number)
-
-  pub hello-fault : {buf'' : Bytes} → next (drop r line) ≡ faulty
-      → Fails (payload_of hello_payload (drop at line)) (has_version (next (drop at line))) buf buf''
-  hello-fault e = fails (pay-one-bad _ _ _ (drop at line) w.is e) version-stored
-
-  module _ {n q : ℕ} {nul : Bool} {buf'' : Bytes} (t : FoundAs line r n q nul buf' 1 buf'') where
-    pub hello-text : is_ended (next (drop q line)) ≡ true
-        → BuildsAs (payload_of hello_payload (drop at line)) (length line + 1) buf 0 (1 + n) buf''
-    hello-text e = record {
-      value = v ∷ bytes_of t.value;
-      is = pay-two _ _ _ (drop at line) w.is t.is e ∙ rw w.number;
-      count = omega (arith, t.stored.count);
-      held = t.stored.held ∙ rw k;
-      short = omega (arith, t.short, t.within);
-    }
-
-    pub hello-more : is_ended (next (drop q line)) ≡ false
-        → Fails (payload_of hello_payload (drop at line)) (has_version (next (drop at line))) buf buf''
-    hello-more e = fails (pay-two-more _ _ _ (drop at line) w.is t.is e) version-stored
-
--- ---- the next field, as it is read
-
-module _ {line : Bytes} {at i : ℕ} (k : Skipped line at i) (h : i < length line) where
-  pub found-quoted : (buf : Bytes) (to : ℕ) (buf' : Bytes) → get_or line i 0 ≡ 34 → (r : Found)
-      → ScannedAt line (i + 1) buf to r buf' → FoundAt line at buf to r buf'
-  found-quoted buf to buf' e Nothing s = absurd s
-  found-quoted buf to buf' e Faulty s = next-quoted k h e ∙ rw s
-  found-quoted buf to buf' e (Field1 n q nul) s = record {
-    value = in_quotes s.value;
-    is = next-quoted k h e ∙ rw s.is;
-    stored = s.stored;
-    within = s.within;
-    short = omega (arith, s.short, k.place.on);
+  hello-built (Some n) t = record {
+    value = v ∷ bytes_of t.value;
+    is = rest_of hello_payload (drop at line) w.is ∙ rw (t.is, w.number);
+    count = omega (arith, t.count);
+    held = t.held ∙ rw k;
+    short = omega (arith, t.short);
   }
 
-  module _ {e : ℕ} (p : get_or line i 0 ≡ 34 → ⊥) (w : Spelled line i e) where
-    pub found_plain : (buf : Bytes) (to : ℕ) (nul : Bool) (buf' : Bytes) → nul ≡ has_nul (take (e - i) (drop i line))
-        → buf' ≡ sets buf to (take (e - i) (drop i line)) → FoundAs line at (e - i) e nul buf to buf'
-    found_plain buf to nul buf' f g =
-        let on = w.place.on in
-        let within = w.place.within in
-        let b : e - i ≤ length (drop i line) = simp length-drop (omega arith) in
-        record {
-          value = plain (take (e - i) (drop i line));
-          is = next-plain k h p w;
-          stored = record { count = length-take-le (e - i) (drop i line) b; nuls = f; held = g };
-          within = within;
-          short = omega (arith, k.place.on);
-        }
+-- ---- HELLO's version, as it is read
 
-    pub version-plain : (v : ℕ) → number_of (number_from 0 (take (e - i) (drop i line))) ≡ Is v → VersionAs line at v e
-    unfolding version
-    version-plain v f = record {
-      value = plain (take (e - i) (drop i line));
-      is = next-plain k h p w;
-      number = number_is (number_from 0 (take (e - i) (drop i line))) v f;
-      within = w.place.within;
-    }
+-- a quote is no digit
+quote-number : {line : Bytes} {i e : ℕ} (w : Spelled line i e) → i < length line → get_or line i 0 ≡ 34
+    → number_from 0 (take (e - i) (drop i line)) ≡ none
+unfolding word number_from all_digits
+quote-number {line} {i} w h e = rw (← w.is, drop-cons line i 0 h, e)
 
-    pub version-bad : number_of (number_from 0 (take (e - i) (drop i line))) ≡ Bad
-        → payload_of hello_payload (drop at line) ≡ none
-    unfolding version
-    version-bad f =
-        hello-bad (drop at line) (plain (take (e - i) (drop i line))) (drop e line) (next-plain k h p w)
-        (number-bad (number_from 0 (take (e - i) (drop i line))) f)
+module _ {line : Bytes} {at i e : ℕ} (k : Skipped line at i) (w : Spelled line i e) where
+  abbrev spelled : Option ℕ
+  spelled = number_from 0 (take (e - i) (drop i line))
+
+  pub version-read : (v : ℕ) → in_code spelled ≡ Some v → VersionAs line at v e
+  unfolding version
+  version-read v f = record {
+    value = plain (take (e - i) (drop i line));
+    is = next-plain k (λ q. none-some (sym (quote-number w k.within q) ∙ given_some spelled v f)) w;
+    number = given_some spelled v f;
+    within = w.place.within;
+  }
+
+  pub version-bad : in_code spelled ≡ None → payload_of hello_payload (drop at line) ≡ none
+  unfolding version
+  version-bad f = by (eqb (get_or line i 0) 34) refl
+    where
+      by : (b : Bool) → eqb (get_or line i 0) 34 ≡ b → payload_of hello_payload (drop at line) ≡ none
+      by true q = hello-quoted (drop at line) (quoted (drop (i + 1) line)) (next-quoted k (eqb-true _ _ q))
+      by false q =
+          hello-bad (drop at line) (plain (take (e - i) (drop i line))) (drop e line)
+          (next-plain k (eqb-false _ _ q) w) (given_none spelled f)

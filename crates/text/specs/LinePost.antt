@@ -1,20 +1,28 @@
 -- What the translation of a line ensures.
-use Rattle.std.specs.Prelude.{◌≡◌, Bool, false, ℕ, length}
+use Rattle.std.specs.Prelude.{◌≡◌, Bool, false, ℕ, None, Some, Result, Ok, Err, length}
+use Rattle.std.specs.Prelude as Code
 use Rattle.std.proofs.Math.Option.{Option, none, some}
 use Rattle.std.proofs.lemmas.List.Edits.{sets}
 use Rattle.octets.specs.Octets.{Bytes}
+use Rattle.protocol.specs.declared.Refusal.{Refusal}
+use Rattle.protocol.specs.Ids as Ids
 use Rattle.words.specs.Words.{id_of}
 use Rattle.text.specs.Fields.{trim, word, after_word, next}
 use Rattle.text.specs.Line.{Line, blank, refused, message}
 use Rattle.text.specs.PayloadPost.{stores}
-use Rattle.text.specs.declared.Translated.{Translated}
-use Rattle.text.specs.declared.Translated.TheVariants.{Blank, Message, Refused}
+use Rattle.text.specs.declared.Message.{Message}
+
+-- the line is the message m
+pub record IsMessage (l : Line) (m : Message) : Type 0 where
+  pub value : Bytes
+  pub is : l ≡ message (Ids.id_of m.id) value
+  pub count : length value ≡ m.len
 
 -- what is answered for a line
-abbrev pub answer_of : Line → Translated
-answer_of blank = Blank
-answer_of (refused r) = Refused r
-answer_of (message id p) = Message id (length p)
+abbrev pub Answers : Line → Result (Code.Option Message) Refusal → Type 0
+Answers l (Ok None) = l ≡ blank
+Answers l (Ok (Some m)) = IsMessage l m
+Answers l (Err r) = l ≡ refused r
 
 -- whether a refused command can have stored a byte; an unknown word is refused before its fields are looked at
 abbrev pub stores_for : Option ℕ → Bytes → Bool
@@ -37,6 +45,7 @@ Held (refused r) stored buf buf' = Kept stored buf buf'
 Held (message id p) stored buf buf' = buf' ≡ sets buf 0 p
 
 -- the answer for a line, and what the buffer then holds
-pub record Translates (l : Line) (stored : Bool) (buf : Bytes) (r : Translated) (buf' : Bytes) : Type 0 where
-  pub answer : r ≡ answer_of l
+pub record Translates (l : Line) (stored : Bool) (buf : Bytes) (r : Result (Code.Option Message) Refusal) (buf' : Bytes)
+    : Type 0 where
+  pub answer : Answers l r
   pub held : Held l stored buf buf'

@@ -1,5 +1,7 @@
 -- What the functions on payloads ensure. A place in a line is an index; `drop at line` is what stands from there on.
 use Rattle.std.specs.Prelude.{◌≡◌, List, [], ◌∷◌, Bool, false, cond, not, ◌||◌, ℕ, ◌+◌, ◌≤◌, eqb, length, drop}
+use Rattle.std.specs.Prelude.{None, Some, Result, Ok, Err}
+use Rattle.std.specs.Prelude as Code
 use Rattle.std.proofs.Math.Option.{Option, none, some}
 use Rattle.std.proofs.lemmas.List.Edits.{sets}
 use Rattle.octets.specs.Octets.{Bytes}
@@ -8,21 +10,9 @@ use Rattle.text.specs.Fields.{Field, bytes_of}
 use Rattle.text.specs.Fields.{Next, ended, faulty, field, next}
 use Rattle.text.specs.FieldPost.{is_ended}
 use Rattle.text.specs.Line.{payload_of}
-use Rattle.text.specs.Payload.{by_count, not_two, the_field, version, hello_payload}
-use Rattle.protocol.specs.declared.Refusal.TheVariants.{Parameter}
-use Rattle.text.specs.declared.payloads.Number.{Number}
-use Rattle.text.specs.declared.payloads.Number.TheVariants.{Is, Bad as Bad2}
+use Rattle.text.specs.Payload.{by_count, not_two, version, hello_payload}
+use Rattle.text.specs.declared.fields.Malformed.{Malformed}
 use Rattle.text.specs.declared.payloads.Version.{Version}
-use Rattle.text.specs.declared.payloads.Version.TheVariants.{Missing, Faulty as Faulty1, Is as Is1}
-use Rattle.text.specs.declared.payloads.Built.{Built}
-use Rattle.text.specs.declared.payloads.Built.TheVariants.{Payload, Faulty as Faulty2}
-use Rattle.text.specs.declared.Translated.{Translated}
-use Rattle.text.specs.declared.Translated.TheVariants.{Message, Refused}
-
--- a number, or none, as the code gives it
-abbrev pub number_of : Option ℕ → Number
-number_of none = Bad2
-number_of (some n) = Is n
 
 -- a version n runs to r
 pub record VersionAs (line : Bytes) (at n r : ℕ) : Type 0 where
@@ -32,10 +22,10 @@ pub record VersionAs (line : Bytes) (at n r : ℕ) : Type 0 where
   pub within : r ≤ length line
 
 -- the version from `at` on
-abbrev pub VersionAt : Bytes → ℕ → Version → Type 0
-VersionAt line at Missing = next (drop at line) ≡ ended
-VersionAt line at Faulty1 = payload_of hello_payload (drop at line) ≡ none
-VersionAt line at (Is1 n r) = VersionAs line at n r
+abbrev pub VersionAt : Bytes → ℕ → Result (Code.Option Version) Malformed → Type 0
+VersionAt line at (Ok None) = next (drop at line) ≡ ended
+VersionAt line at (Ok (Some v)) = VersionAs line at v.number v.next
+VersionAt line at (Err e) = payload_of hello_payload (drop at line) ≡ none
 
 -- the payload, or the part of one, is there, and stands in the buffer from `to` on: n bytes, at most `most`
 pub record BuildsAs (p : Option (Bytes)) (most : ℕ) (buf : Bytes) (to n : ℕ) (buf' : Bytes) : Type 0 where
@@ -51,13 +41,14 @@ pub record Fails (p : Option (Bytes)) (stored : Bool) (buf buf' : Bytes) : Type 
   pub same : stored ≡ false → buf' ≡ buf
 
 -- the same by what the code gives
-abbrev pub Builds : Option (Bytes) → Bool → ℕ → Bytes → ℕ → Built → Bytes → Type 0
-Builds p stored most buf to (Payload n) buf' = BuildsAs p most buf to n buf'
-Builds p stored most buf to Faulty2 buf' = Fails p stored buf buf'
+abbrev pub Builds : Option (Bytes) → Bool → ℕ → Bytes → ℕ → Result ℕ Malformed → Bytes → Type 0
+Builds p stored most buf to (Ok n) buf' = BuildsAs p most buf to n buf'
+Builds p stored most buf to (Err e) buf' = Fails p stored buf buf'
 
 -- the payload that h makes of the fields from `at` on, which is at most a byte longer than the line; f tells by what
 -- comes next whether a byte can have been stored where there is none
-abbrev pub BuildsLine : (List Field → Option Bytes) → (Next → Bool) → Bytes → ℕ → Bytes → Built → Bytes → Type 0
+abbrev pub BuildsLine : (List Field → Option Bytes) → (Next → Bool) → Bytes → ℕ → Bytes → Result ℕ Malformed → Bytes
+    → Type 0
 BuildsLine h f line at buf r buf' =
     Builds (payload_of h (drop at line)) (f (next (drop at line))) (length line + 1) buf 0 r buf'
 
@@ -83,12 +74,3 @@ stores id x = cond (eqb id 0) (has_version x) (cond (eqb id 5 || eqb id 6) false
 -- what follows the key in a WRITE's payload
 abbrev pub value_payload : List Field → Option (Bytes)
 value_payload = by_count (some []) (λ v. some (0 ∷ bytes_of v)) not_two
-
--- one field, or none where it is optional
-abbrev pub single_payload : Bool → List Field → Option Bytes
-single_payload optional = by_count (cond optional (some []) none) the_field not_two
-
--- what is answered for a payload
-abbrev pub built_as : ℕ → Built → Translated
-built_as id Faulty2 = Refused Parameter
-built_as id (Payload n) = Message id n

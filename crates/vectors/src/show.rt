@@ -1,100 +1,57 @@
 // Replies and messages on standard output.
-ghost use Rattle.std.specs.Prelude.{◌<◌};
-
-use broker::Reply;
+use client::Read;
+use protocol::Failure;
 use std::io;
-
-// Writes the text.
-pub fn put(rt: &impl Print, text: &[u8]) -> io::Result<()> {
-    rt.write_all(text)
-}
-
-// Writes one byte.
-fn byte(rt: &impl Print, b: u8) -> io::Result<()> {
-    let one = [b];
-    rt.write_all(&one)
-}
-
-// Writes a space and a number.
-fn number(rt: &impl Print, n: u64) -> io::Result<()> {
-    put(rt, b" ")?;
-    rt.print(n)
-}
-
-// The digit of a number below 16.
-fn hex(n: u8) -> u8
-    requires { n < 16 }
-{
-    if n < 10 { b'0' + n } else { b'a' + n - 10 }
-}
 
 // Writes a byte as the inputs have it: a printing byte as it is, LF as `\n`, CR as `\r`, every
 // other byte as `\xHH`.
 fn shown(rt: &impl Print, b: u8) -> io::Result<()> {
     match b {
-        b'\n' => put(rt, b"\\n"),
-        b'\r' => put(rt, b"\\r"),
-        b'\\' => put(rt, b"\\\\"),
-        32..=126 => byte(rt, b),
-        _ => {
-            put(rt, b"\\x")?;
-            byte(rt, hex(b / 16))?;
-            byte(rt, hex(b % 16))
-        }
+        b'\n' => print!(rt; "\\n"),
+        b'\r' => print!(rt; "\\r"),
+        b'\\' => print!(rt; "\\\\"),
+        b' '..=b'~' => print!(rt; "{}", char::from(b)),
+        _ => print!(rt; "\\x{b:02x}"),
     }
 }
 
-// Writes the first 60 bytes of a message.
+// Writes the first 60 bytes of a message behind a space, and ends the line.
 fn message(rt: &impl Print, m: &[u8]) -> io::Result<()> {
-    let n = octets::min(60, m.len());
-    let mut i = 0;
-    while i < n {
-        shown(rt, m[i])?;
-        i += 1;
+    print!(rt; " ")?;
+    for &b in m.iter().take(60) {
+        shown(rt, b)?;
     }
     if 60 < m.len() {
-        put(rt, b" ..")?;
+        print!(rt; " ..")?;
     }
-    Ok(())
+    print!(rt; "\n")
 }
 
-// Writes an answer and a count.
-fn numbers(rt: &impl Print, answer: u32, count: usize) -> io::Result<()> {
-    put(rt, b"  ")?;
-    number(rt, answer as u64)?;
-    number(rt, count as u64)
-}
-
-// Writes a message, if the answer says that there is one, and ends the line.
-fn with_message(rt: &impl Print, answer: u32, m: &[u8]) -> io::Result<()> {
-    if answer == 0 {
-        put(rt, b" ")?;
-        message(rt, m)?;
+// Writes a reply: its answer and its count.
+pub fn reply(rt: &impl Print, r: Result<usize, Failure>) -> io::Result<()> {
+    match r {
+        Ok(count) => print!(rt; "   0 {count}\n"),
+        Err(failure) => print!(rt; "   {} {}\n", u32::from(failure), failure.consumed()),
     }
-    put(rt, b"\n")
 }
 
-// Writes a reply.
-pub fn reply(rt: &impl Print, r: Reply) -> io::Result<()> {
-    numbers(rt, r.answer, r.count)?;
-    put(rt, b"\n")
+// Writes the reply of a take or of a written command, with the bytes that it put into out.
+pub fn written(rt: &impl Print, r: Result<usize, Failure>, out: &[u8]) -> io::Result<()> {
+    let Ok(count) = r else {
+        return reply(rt, r);
+    };
+    print!(rt; "   0 {count}")?;
+    message(rt, octets::front(out, count))
 }
 
-// Writes the answer of a take or of a written command, its count, and the bytes if there are some.
-pub fn written(rt: &impl Print, answer: u32, count: usize, m: &[u8]) -> io::Result<()> {
-    numbers(rt, answer, count)?;
-    with_message(rt, answer, m)
-}
-
-// Writes the answer of a message that was read, its two counts, and its bytes if there are some.
-pub fn read(
-    rt: &impl Print,
-    answer: u32,
-    consumed: usize,
-    written: usize,
-    m: &[u8],
-) -> io::Result<()> {
-    numbers(rt, answer, consumed)?;
-    number(rt, written as u64)?;
-    with_message(rt, answer, m)
+// Writes the answer of a message that was read and its two counts, with the bytes that it put into
+// out.
+pub fn read(rt: &impl Print, r: Result<Read, Failure>, out: &[u8]) -> io::Result<()> {
+    match r {
+        Ok(Read { consumed, written }) => {
+            print!(rt; "   0 {consumed} {written}")?;
+            message(rt, octets::front(out, written))
+        }
+        Err(failure) => print!(rt; "   {} {} 0\n", u32::from(failure), failure.consumed()),
+    }
 }

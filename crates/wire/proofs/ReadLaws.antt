@@ -1,7 +1,7 @@
 -- What `read` answers is what the message says: a command with its payload (`read-command`), or a blank line
 -- (`read-blank`); a buffer as long as the message always has room (`read_short`). So `cut`, then `read`, gives
 -- `received` (`read-received`). A WRITE that was read has the parts of its payload (`read-splits`).
-use mathlib.Core.Path.{◌≡◌, refl, sym, subst, ◌∙◌}
+use mathlib.Core.Path.{◌≡◌, refl, sym, ap, subst, ◌∙◌}
 use mathlib.Core.List.{[], ◌∷◌}
 use mathlib.Core.Bool.{Bool, true, false, cond}
 use Prim.Native.Nat.{ℕ, ◌-◌, ◌≤◌, ◌<◌}
@@ -10,6 +10,7 @@ use lib.Dec.{leb}
 use lib.ListN.{length, drop, length-take}
 use lib.Seq.{take-length, length-take-le, drop-drop}
 use borrow.Author.Tests.{leb-true, leb-false}
+use Rattle.std.specs.Prelude.{Option, None, Some, Result, Ok, Err}
 use Rattle.octets.specs.Octets.{Bytes}
 use Rattle.protocol.specs.declared.Kind.{Kind}
 use Rattle.protocol.specs.declared.Kind.TheVariants.{Packets, Stream, Framed, Text}
@@ -22,8 +23,8 @@ use Rattle.framing.specs.Framing as Framing
 use Rattle.framing.proofs.Laws.{length_of-le}
 use Rattle.text.specs.Line.{Line, blank, refused, message, line_of}
 use Rattle.text.proofs.LengthLaws.{payload-length}
-use Rattle.command.specs.declared.Command.{Command as Command₁}
-use Rattle.command.specs.declared.Command.TheVariants.{Write, Refused}
+use Rattle.command.specs.declared.Command.{Command}
+use Rattle.command.specs.declared.Command.TheVariants.{Write}
 use Rattle.command.specs.declared.Written.{Written}
 use Rattle.command.specs.Commands.{Splits, command_of}
 use Rattle.command.specs.Meaning.{meant}
@@ -31,8 +32,9 @@ use Rattle.command.specs.Sound.{SoundAction, SoundReading}
 use Rattle.command.proofs.SoundLaws.{reading-sound, write-splits}
 use Rattle.wire.specs.Received.{binary, front, last_byte, text_line, decoded_in, reading_line, reading, is_whole}
 use Rattle.wire.specs.Received.{received}
-use Rattle.wire.specs.Post.{answer_of, room_in, LeftIn, Left, ReadsIn, Reads, payload_in, payload_part}
-use Rattle.wire.specs.declared.Reading.TheVariants.{Blank, Short, Command}
+use Rattle.wire.specs.Post.{answer_of, short, room_in, LeftIn, Left, ReadsIn, Reads, payload_in, payload_part}
+use Rattle.wire.specs.declared.Reading.{Reading}
+use Rattle.wire.specs.declared.ShortBuffer.{ShortBuffer}
 use Rattle.wire.proofs.Laws.{take-sets}
 
 -- ---- the payload of a decoded message
@@ -65,70 +67,86 @@ payload-there Text m buf buf' id p e h l = rw l (take-sets buf p (text-payload m
 
 -- ---- an answer and its reading
 
+-- what is answered for a message that says this, with n bytes of payload
+abbrev pub says : Result Command Refusal → ℕ → Result (Option Reading) ShortBuffer
+says c n = Ok (Some (record { command = c; len = n }))
+
+-- what is answered where the buffer has room
+abbrev answered : Option Reading → Result (Option Reading) ShortBuffer
+answered o = Ok o
+
+-- the same answer says the same
+same-said : {c : Result Command Refusal} {n : ℕ} {x : Reading} → says c n ≡ answered (Some x)
+    → (c ≡ x.command) × (n ≡ x.len)
+same-said {c} {n} {x} e =
+    let r : Reading = record { command = c; len = n } in
+    let f : r ≡ x = cc in
+    (ap (λ (y : Reading). y.command) f, ap (λ (y : Reading). y.len) f)
+
 module _ (k : Kind) (m buf buf' : Bytes) where
   -- a command with its payload
-  read-in : (c : Command₁) (n : ℕ) → ReadsIn k m buf (Command c n) buf'
+  read-in : (c : Result Command Refusal) (n : ℕ) → ReadsIn k m buf (says c n) buf'
       → reading_line (decoded_in k m) ≡ meant (payload_in k m buf' n) c
   unfolding meant
   read-in c n w = by (leb (room_in k m) (length buf)) refl w.answer w.left
     where
-      said : (l : Line) → decoded_in k m ≡ l → room_in k m ≤ length buf → Command c n ≡ answer_of l → LeftIn k m l buf buf'
+      said : (l : Line) → decoded_in k m ≡ l → room_in k m ≤ length buf → says c n ≡ answered (answer_of l) → LeftIn k m l buf buf'
           → reading_line l ≡ meant (payload_in k m buf' n) c
       said blank e h a q = let z : ◌≡◌ {A = ℕ} 0 1 = cc in absurd (omega arith)
-      said (refused r) e h a q = let f : c ≡ Refused r = cc in rw f
+      said (refused r) e h a q = let f : c ≡ Err r = (same-said a).0 in rw f
       said (message id p) e h a q =
-          let f : c ≡ command_of id p = cc in
-          let g : n ≡ length p = cc in
+          let f : c ≡ command_of id p = (same-said a).0 in
+          let g : n ≡ length p = (same-said a).1 in
           rw (f, g, payload-there k m buf buf' id p e h q)
 
-      by : (b : Bool) → leb (room_in k m) (length buf) ≡ b → Command c n ≡ cond b (answer_of (decoded_in k m)) Short
+      by : (b : Bool) → leb (room_in k m) (length buf) ≡ b → says c n ≡ cond b (Ok (answer_of (decoded_in k m))) short
           → Left b k m (decoded_in k m) buf buf' → reading_line (decoded_in k m) ≡ meant (payload_in k m buf' n) c
       by true e a q = said (decoded_in k m) refl (leb-true _ _ e) a q
       by false e a q = let z : ◌≡◌ {A = ℕ} 0 1 = cc in absurd (omega arith)
 
   -- what holds of every refusal, and of every command that an ID and a payload are, holds of what was read
-  command-in : (P : Bytes → Command₁ → Type 0) → ((p : Bytes) (r : Refusal) → P p (Refused r))
-      → ((id : ℕ) (p : Bytes) → P p (command_of id p)) → (c : Command₁) (n : ℕ) → ReadsIn k m buf (Command c n) buf'
+  command-in : (P : Bytes → Result Command Refusal → Type 0) → ((p : Bytes) (r : Refusal) → P p (Err r))
+      → ((id : ℕ) (p : Bytes) → P p (command_of id p)) → (c : Result Command Refusal) (n : ℕ) → ReadsIn k m buf (says c n) buf'
       → P (payload_in k m buf' n) c
   command-in P none each c n w = by (leb (room_in k m) (length buf)) refl w.answer w.left
     where
-      said : (l : Line) → decoded_in k m ≡ l → room_in k m ≤ length buf → Command c n ≡ answer_of l → LeftIn k m l buf buf'
+      said : (l : Line) → decoded_in k m ≡ l → room_in k m ≤ length buf → says c n ≡ answered (answer_of l) → LeftIn k m l buf buf'
           → P (payload_in k m buf' n) c
       said blank e h x q = let z : ◌≡◌ {A = ℕ} 0 1 = cc in absurd (omega arith)
-      said (refused r) e h x q = let f : c ≡ Refused r = cc in rw f (none (payload_in k m buf' n) r)
+      said (refused r) e h x q = let f : c ≡ Err r = (same-said x).0 in rw f (none (payload_in k m buf' n) r)
       said (message id p) e h x q =
-          let f : c ≡ command_of id p = cc in
-          let g : n ≡ length p = cc in
+          let f : c ≡ command_of id p = (same-said x).0 in
+          let g : n ≡ length p = (same-said x).1 in
           rw (f, g, payload-there k m buf buf' id p e h q) (each id p)
 
-      by : (b : Bool) → leb (room_in k m) (length buf) ≡ b → Command c n ≡ cond b (answer_of (decoded_in k m)) Short
+      by : (b : Bool) → leb (room_in k m) (length buf) ≡ b → says c n ≡ cond b (Ok (answer_of (decoded_in k m))) short
           → Left b k m (decoded_in k m) buf buf' → P (payload_in k m buf' n) c
       by true e x q = said (decoded_in k m) refl (leb-true _ _ e) x q
       by false e x q = let z : ◌≡◌ {A = ℕ} 0 1 = cc in absurd (omega arith)
 
   -- a blank line
-  blank-in : ReadsIn k m buf Blank buf' → reading_line (decoded_in k m) ≡ Terms.blank
+  blank-in : ReadsIn k m buf (Ok None) buf' → reading_line (decoded_in k m) ≡ Terms.blank
   blank-in w = by (leb (room_in k m) (length buf)) w.answer
     where
-      said : (l : Line) → Blank ≡ answer_of l → reading_line l ≡ Terms.blank
+      said : (l : Line) → answered None ≡ answered (answer_of l) → reading_line l ≡ Terms.blank
       said blank a = refl
       said (refused r) a = let z : ◌≡◌ {A = ℕ} 0 1 = cc in absurd (omega arith)
       said (message id p) a = let z : ◌≡◌ {A = ℕ} 0 1 = cc in absurd (omega arith)
 
-      by : (b : Bool) → Blank ≡ cond b (answer_of (decoded_in k m)) Short → reading_line (decoded_in k m) ≡ Terms.blank
+      by : (b : Bool) → answered None ≡ cond b (answered (answer_of (decoded_in k m))) short → reading_line (decoded_in k m) ≡ Terms.blank
       by true a = said (decoded_in k m) a
       by false a = let z : ◌≡◌ {A = ℕ} 0 1 = cc in absurd (omega arith)
 
   -- no room
-  short-in : ReadsIn k m buf Short buf' → length buf < room_in k m
+  short-in : ReadsIn k m buf short buf' → length buf < room_in k m
   short-in w = by (leb (room_in k m) (length buf)) refl w.answer
     where
-      said : (l : Line) → Short ≡ answer_of l → ⊥
+      said : (l : Line) → short ≡ answered (answer_of l) → ⊥
       said blank a = let z : ◌≡◌ {A = ℕ} 0 1 = cc in omega arith
       said (refused r) a = let z : ◌≡◌ {A = ℕ} 0 1 = cc in omega arith
       said (message id p) a = let z : ◌≡◌ {A = ℕ} 0 1 = cc in omega arith
 
-      by : (b : Bool) → leb (room_in k m) (length buf) ≡ b → Short ≡ cond b (answer_of (decoded_in k m)) Short
+      by : (b : Bool) → leb (room_in k m) (length buf) ≡ b → short ≡ cond b (Ok (answer_of (decoded_in k m))) short
           → length buf < room_in k m
       by true e a = absurd (said (decoded_in k m) a)
       by false e a = leb-false _ _ e
@@ -136,10 +154,10 @@ module _ (k : Kind) (m buf buf' : Bytes) where
 -- ---- what holds of a command and its payload
 
 -- a plain command is sound
-abbrev SoundPlain : Bytes → Command₁ → Type 0
+abbrev SoundPlain : Bytes → Result Command Refusal → Type 0
 SoundPlain p c = (a : Action) → meant p c ≡ command (plain a) → SoundAction (action_id a) p a
 
-refused-sound : (p : Bytes) (r : Refusal) → SoundPlain p (Refused r)
+refused-sound : (p : Bytes) (r : Refusal) → SoundPlain p (Err r)
 unfolding meant
 refused-sound p r a t = let z : ◌≡◌ {A = ℕ} 0 1 = cc in absurd (omega arith)
 
@@ -149,10 +167,10 @@ command_of-sound id p a t =
     record { identity = refl; content = b.content; fits = b.fits; fine = b.fine }
 
 -- a WRITE has the parts of the payload
-abbrev SplitWrite : Bytes → Command₁ → Type 0
-SplitWrite p c = (i : ℕ) (w : Written) → c ≡ Write i w → Splits p i w
+abbrev SplitWrite : Bytes → Result Command Refusal → Type 0
+SplitWrite p c = (i : ℕ) (w : Written) → c ≡ Ok (Write i w) → Splits p i w
 
-refused-splits : (p : Bytes) (r : Refusal) → SplitWrite p (Refused r)
+refused-splits : (p : Bytes) (r : Refusal) → SplitWrite p (Err r)
 refused-splits p r i w e = let z : ◌≡◌ {A = ℕ} 0 1 = cc in absurd (omega arith)
 
 -- ---- a message that was cut
@@ -169,29 +187,29 @@ room_in-le Text m = by (ends_line (last_byte m))
 
 module _ (k : Kind) {m buf buf' : Bytes} where
   -- the command that was read and its payload are what the message says
-  pub read-command : {c : Command₁} {n : ℕ} → Reads k m buf (Command c n) buf'
+  pub read-command : {c : Result Command Refusal} {n : ℕ} → Reads k m buf (says c n) buf'
       → reading k m ≡ meant (payload_part k m buf' n) c
   read-command {c} {n} w = read-in (kind_of k m) m buf buf' c n w
 
-  pub read-blank : Reads k m buf Blank buf' → reading k m ≡ Terms.blank
+  pub read-blank : Reads k m buf (Ok None) buf' → reading k m ≡ Terms.blank
   read-blank w = blank-in (kind_of k m) m buf buf' w
 
   -- a plain command that was read is sound
-  pub read-sound : {c : Command₁} {n : ℕ} → Reads k m buf (Command c n) buf' → (a : Action)
+  pub read-sound : {c : Result Command Refusal} {n : ℕ} → Reads k m buf (says c n) buf' → (a : Action)
       → meant (payload_part k m buf' n) c ≡ command (plain a) → SoundAction (action_id a) (payload_part k m buf' n) a
   read-sound {c} {n} w = command-in (kind_of k m) m buf buf' SoundPlain refused-sound command_of-sound c n w
 
   -- a WRITE that was read has the parts of its payload
-  pub read-splits : {c : Command₁} {n : ℕ} → Reads k m buf (Command c n) buf' → (i : ℕ) (w : Written) → c ≡ Write i w
+  pub read-splits : {c : Result Command Refusal} {n : ℕ} → Reads k m buf (says c n) buf' → (i : ℕ) (w : Written) → c ≡ Ok (Write i w)
       → Splits (payload_part k m buf' n) i w
   read-splits {c} {n} w = command-in (kind_of k m) m buf buf' SplitWrite refused-splits write-splits c n w
 
   -- only a buffer without room for the message is too short
-  pub read-no-room : Reads k m buf Short buf' → length buf < room_in (kind_of k m) m
+  pub read-no-room : Reads k m buf short buf' → length buf < room_in (kind_of k m) m
   read-no-room w = short-in (kind_of k m) m buf buf' w
 
   -- only a buffer shorter than the message can lack room
-  pub read_short : Reads k m buf Short buf' → length buf < length m
+  pub read_short : Reads k m buf short buf' → length buf < length m
   read_short w = omega (arith, short-in (kind_of k m) m buf buf' w, room_in-le (kind_of k m) m)
 
 -- the message that is cut, where it is whole, and its reading are the first message of the input

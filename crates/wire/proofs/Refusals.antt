@@ -6,7 +6,9 @@ use mathlib.Core.Bool.{Bool, true, false, cond}
 use mathlib.Core.Option.{Option, none, some}
 use Prim.Native.Nat.{ℕ}
 use native.Mathlib.Omega.{arith}
+use Rattle.std.specs.Prelude.{Result, Ok, Err}
 use Rattle.octets.specs.Octets.{Bytes}
+use Rattle.protocol.specs.declared.Refusal.{Refusal}
 use Rattle.protocol.specs.declared.Kind.{Kind}
 use Rattle.protocol.specs.declared.Kind.TheVariants.{Packets, Stream, Framed, Text}
 use Rattle.protocol.specs.declared.Refusal.TheVariants.{Unknown, Parameter, Room, State}
@@ -18,7 +20,7 @@ use Rattle.text.specs.Payload.{payload_for}
 use Rattle.text.specs.Line.{Line, blank, refused, message, payload_of, of_payload, of_id, begun, line_of}
 use Rattle.command.specs.declared.Written.TheVariants.{Delete, Value}
 use Rattle.command.specs.declared.Command.{Command}
-use Rattle.command.specs.declared.Command.TheVariants.{Hello, Sub, Unsub, Read, Write, Begin, Commit, Ping, Refused}
+use Rattle.command.specs.declared.Command.TheVariants.{Hello, Sub, Unsub, Read, Write, Begin, Commit, Ping}
 use Rattle.command.specs.Commands.{command_of}
 use Rattle.command.specs.Meaning.{meant, reading_of}
 use Rattle.command.specs.Refusals as Refusals
@@ -75,18 +77,18 @@ decoded_in-stateless Text m = text_line-stateless m
 
 -- ---- the order
 
-meant-refusal : (p : Bytes) (c : Command) → refusal_of (meant p c) ≡ Refusals.refusal_of c
+meant-refusal : (p : Bytes) (c : Result Command Refusal) → refusal_of (meant p c) ≡ Refusals.refusal_of c
 unfolding meant
-meant-refusal p Hello = refl
-meant-refusal p Sub = refl
-meant-refusal p Unsub = refl
-meant-refusal p Read = refl
-meant-refusal p (Write k Delete) = refl
-meant-refusal p (Write k (Value at n)) = refl
-meant-refusal p Begin = refl
-meant-refusal p Commit = refl
-meant-refusal p Ping = refl
-meant-refusal p (Refused r) = refl
+meant-refusal p (Ok Hello) = refl
+meant-refusal p (Ok Sub) = refl
+meant-refusal p (Ok Unsub) = refl
+meant-refusal p (Ok Read) = refl
+meant-refusal p (Ok (Write k Delete)) = refl
+meant-refusal p (Ok (Write k (Value at n))) = refl
+meant-refusal p (Ok Begin) = refl
+meant-refusal p (Ok Commit) = refl
+meant-refusal p (Ok Ping) = refl
+meant-refusal p (Err r) = refl
 
 -- an ID and a payload are refused as their verdict says
 pub reading-verdict : (id : ℕ) (p : Bytes) → refusal_of (reading_of id p) ≡ Refusals.verdict id p

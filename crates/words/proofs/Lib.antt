@@ -1,3 +1,3 @@
-pub mod Laws
 pub mod Rule
 pub mod Examples
+pub mod Laws

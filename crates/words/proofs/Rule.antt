@@ -14,8 +14,8 @@ use Rattle.octets.specs.Order.{same}
 use Rattle.octets.proofs.Orders.{same-eq, eq-same}
 use Rattle.words.specs.Words.{Entry, words, lower, is_letter, names, look_up, id_of}
 use Rattle.words.specs.Words.{EitherCase, AnyCase, IsLetter, Names, In, Gives}
-use Rattle.words.specs.declared.Letter.{Letter}
-use Rattle.words.specs.declared.Letter.TheVariants.{Some, None}
+use Rattle.std.specs.Prelude.{Some, None}
+use Rattle.std.specs.Prelude as Code
 
 -- whether every row of a table passes a test
 abbrev pub every : (Entry → Bool) → List Entry → Bool
@@ -50,12 +50,12 @@ lower-either b c s (inl e) = rw e s
 lower-either b c s (inr (l, h, e)) = rw (le-leb 65 b l, le-leb b 90 h) e
 
 -- whether no byte is a capital
-abbrev small : Bytes → Bool
+abbrev pub small : Bytes → Bool
 small [] = true
 small (c ∷ s) = eqb (lower c) c && small s
 
 -- the small letters of a name in any case are the name, if that has no capitals
-lower-any : (w name : Bytes) → small name ≡ true → AnyCase w name → map lower w ≡ name
+pub lower-any : (w name : Bytes) → small name ≡ true → AnyCase w name → map lower w ≡ name
 lower-any [] (c ∷ name) s a = elim a [ ]
 lower-any (b ∷ w) [] s a = elim a [ ]
 lower-any [] [] s a = refl
@@ -65,7 +65,7 @@ lower-any (b ∷ w) (c ∷ name) s (e, a) =
 
 -- ---- a row's names
 
-letter-lower : (w : Bytes) (l : Letter) → is_letter (map lower w) l ≡ true → IsLetter w l
+letter-lower : (w : Bytes) (l : Code.Option ℕ) → is_letter (map lower w) l ≡ true → IsLetter w l
 letter-lower w (Some c) h = rw (same-eq (map lower w) (c ∷ []) h) at (any-lower w)
 letter-lower w None h = absurd (false≢true h)
 
@@ -76,11 +76,11 @@ names-lower w e = by (same (map lower w) e.word) refl
     by true s h = inl (rw (same-eq (map lower w) e.word s) at (any-lower w))
     by false s h = inr (letter-lower w e.letter h)
 
-abbrev small_letter : Letter → Bool
+abbrev pub small_letter : Code.Option ℕ → Bool
 small_letter (Some c) = small (c ∷ [])
 small_letter None = true
 
-lower-letter : (w : Bytes) (l : Letter) → small_letter l ≡ true → IsLetter w l → is_letter (map lower w) l ≡ true
+lower-letter : (w : Bytes) (l : Code.Option ℕ) → small_letter l ≡ true → IsLetter w l → is_letter (map lower w) l ≡ true
 lower-letter w None s a = elim a [ ]
 lower-letter w (Some c) s a = eq-same (map lower w) (c ∷ []) (lower-any w (c ∷ []) s a)
 
@@ -98,7 +98,7 @@ lower-names w e s n = by ((and-eq-true_iff (small e.word) (small_letter e.letter
 -- ---- a table in which no two rows share a name
 
 -- whether the letter of a row names row x as well
-abbrev shares_letter : Letter → Entry → Bool
+abbrev shares_letter : Code.Option ℕ → Entry → Bool
 shares_letter (Some c) x = names (c ∷ []) x
 shares_letter None x = false
 
@@ -106,7 +106,7 @@ shares_letter None x = false
 abbrev shares : Entry → Entry → Bool
 shares e x = names e.word x || shares_letter e.letter x
 
-letter-shares : (w : Bytes) (l : Letter) (x : Entry) → is_letter w l ≡ true → names w x ≡ true
+letter-shares : (w : Bytes) (l : Code.Option ℕ) (x : Entry) → is_letter w l ≡ true → names w x ≡ true
     → shares_letter l x ≡ true
 letter-shares w (Some c) x h k = rw (same-eq w (c ∷ []) h) at k
 letter-shares w None x h k = absurd (false≢true h)
@@ -132,6 +132,12 @@ fit es = every small_row es && apart es
 words-fit : fit words ≡ true
 unfolding ascii same lower
 words-fit = refl
+
+-- a row of the words has no capitals
+pub small-entry : (e : Entry) → In e words → (small e.word ≡ true) × (small_letter e.letter ≡ true)
+small-entry e m =
+    let t = (and-eq-true_iff (every small_row words) (apart words)).0 words-fit in
+    (and-eq-true_iff (small e.word) (small_letter e.letter)).0 (every_in small_row words e t.0 m)
 
 -- ---- the look-up in such a table
 

@@ -1,17 +1,17 @@
 -- The command words (document 01, "From bytes to one command", IDs and Text; document 02, P3): one table of word,
 -- letter and ID, its look-up (`id_of`), and the rule that the look-up is proved to keep, both ways (`Gives`).
 use Rattle.std.specs.Prelude.{◌≡◌, ◌⊎◌, List, [], ◌∷◌, map, Bool, false, cond, ◌&&◌, ◌||◌, ℕ, ◌+◌, ◌≤◌, leb}
+use Rattle.std.specs.Prelude.{Some, None}
+use Rattle.std.specs.Prelude as Code
 use Rattle.std.proofs.Math.Option.{Option, none, some}
 use Prim.Native.Char.{code}
 use Rattle.octets.specs.Octets.{Bytes, ascii}
 use Rattle.octets.specs.Order.{same}
-use Rattle.words.specs.declared.Letter.{Letter}
-use Rattle.words.specs.declared.Letter.TheVariants.{Some, None}
 
 -- a row of the table: a word and its letter, in small letters, and the ID that they name
 pub record Entry : Type 0 where
   pub word : Bytes
-  pub letter : Letter
+  pub letter : Code.Option ℕ
   pub id : ℕ
 
 -- HELLO has no letter
@@ -34,7 +34,7 @@ unfoldable pub lower : ℕ → ℕ
 lower c = cond (leb 65 c && leb c 90) (c + 32) c
 
 -- whether w, given in small letters, is the letter alone
-abbrev pub is_letter : Bytes → Letter → Bool
+abbrev pub is_letter : Bytes → Code.Option ℕ → Bool
 is_letter w (Some c) = same w (c ∷ [])
 is_letter w None = false
 
@@ -65,7 +65,7 @@ AnyCase (b ∷ w) [] = ⊥
 AnyCase (b ∷ w) (c ∷ name) = EitherCase b c × AnyCase w name
 
 -- w is in any case the letter
-abbrev pub IsLetter : Bytes → Letter → Type 0
+abbrev pub IsLetter : Bytes → Code.Option ℕ → Type 0
 IsLetter w (Some c) = AnyCase w (c ∷ [])
 IsLetter w None = ⊥
 

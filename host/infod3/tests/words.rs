@@ -8,6 +8,7 @@ use std::path::Path;
 use std::str::FromStr;
 
 const SOURCE: &str = "crates/words/src/lib.rt";
+const IDS: &str = "crates/protocol/src/command_id.rt";
 const PAGE: &str = "docs/words.md";
 const HEADER: &str = "include/infod3.h";
 
@@ -45,13 +46,28 @@ fn letter(text: &str) -> Result<Option<char>, String> {
     }
 }
 
+/// The ID of each command by its name, as the library's source has them in the conversion to a
+/// byte, whose arms are such as `CommandId::Sub => 1,`.
+fn ids_of_source(source: &str) -> Result<Vec<(&str, u8)>, String> {
+    let arms = between(source, "impl From<CommandId> for u8 {", "\n}\n")?;
+    let arms = between(arms, "match command {\n", "        }\n")?;
+    arms.lines().map(id_of_source).collect()
+}
+
+fn id_of_source(arm: &str) -> Result<(&str, u8), String> {
+    let name = between(arm, "CommandId::", " => ")?;
+    Ok((name, number(between(arm, " => ", ",")?)?))
+}
+
 /// The rows of the constant ROWS in the library's source, or where its form is another than the one
 /// known here.
-fn rows_of_source(source: &str) -> Result<Vec<Row>, String> {
+fn rows_of_source(source: &str, ids: &str) -> Result<Vec<Row>, String> {
+    let ids = ids_of_source(ids)?;
     let (count, table) = between(source, "const ROWS: [Row; ", "\n];\n")?
         .split_once("] = [\n")
         .ok_or("the count of ROWS is not followed by `] = [`")?;
-    let rows: Result<Vec<Row>, String> = table.split_inclusive("},").map(row_of_source).collect();
+    let row = |text| row_of_source(text, &ids);
+    let rows: Result<Vec<Row>, String> = table.split_inclusive("},").map(row).collect();
     let rows = rows?;
     match number::<usize>(count)? == rows.len() {
         true => Ok(rows),
@@ -59,33 +75,30 @@ fn rows_of_source(source: &str) -> Result<Vec<Row>, String> {
     }
 }
 
-/// A row such as `Row { word: *b"sub\0\0\0", len: 3, letter: Letter::Some(b's'), id: 1, },`, with
-/// any spaces and line ends between its parts.
-fn row_of_source(text: &str) -> Result<Row, String> {
+/// A row such as `Row { word: b"sub", letter: Some(b's'), id: CommandId::Sub, },`, with any spaces
+/// and line ends between its parts.
+fn row_of_source(text: &str, ids: &[(&str, u8)]) -> Result<Row, String> {
     let parts: Vec<&str> = text.split_whitespace().collect();
-    let ["Row", "{", "word:", word, "len:", len, "letter:", name, "id:", id, "},"] = parts[..]
-    else {
-        return Err(format!("{text:?} is no Row of word, len, letter and id"));
+    let ["Row", "{", "word:", word, "letter:", name, "id:", id, "},"] = parts[..] else {
+        return Err(format!("{text:?} is no Row of word, letter and id"));
     };
-    let filled = between(word, "*b\"", "\",")?.replace("\\0", "\0");
-    let word = filled.trim_end_matches('\0');
-    let is_small = word.bytes().all(|byte| byte.is_ascii_lowercase());
-    if !is_small || filled.len() != 6 || word.len() != number::<usize>(len.trim_end_matches(','))? {
-        return Err(format!(
-            "{text:?} has no word of len small letters, filled up to six bytes"
-        ));
+    let word = between(word, "b\"", "\",")?;
+    if word.is_empty() || !word.bytes().all(|byte| byte.is_ascii_lowercase()) {
+        return Err(format!("{text:?} has no word of small letters"));
     }
     let letter = match name {
-        "Letter::None," => None,
-        _ => letter(between(name, "Letter::Some(b'", "'),")?)?,
+        "None," => None,
+        _ => letter(between(name, "Some(b'", "'),")?)?,
     };
-    let id = number(id.trim_end_matches(','))?;
-    Ok((word.to_ascii_uppercase(), letter, id))
+    let command = between(id, "CommandId::", ",")?;
+    let known = ids.iter().find(|(name, _)| *name == command);
+    let (_, id) = known.ok_or_else(|| format!("{command} has no ID"))?;
+    Ok((word.to_ascii_uppercase(), letter, *id))
 }
 
 #[test]
 fn rows_are_those_of_the_source() {
-    let found = rows_of_source(&file(SOURCE));
+    let found = rows_of_source(&file(SOURCE), &file(IDS));
     let found =
         found.unwrap_or_else(|error| panic!("{SOURCE} is not in the form known here: {error}"));
     assert_eq!(found, rows(), "{SOURCE}");
@@ -94,26 +107,36 @@ fn rows_are_those_of_the_source() {
 
 #[test]
 fn another_table_in_the_source_is_noticed() {
-    let source = file(SOURCE);
+    let (source, ids) = (file(SOURCE), file(IDS));
     for (from, to) in [
-        ("letter: Letter::None,", "letter: Letter::Some(b'h'),"),
-        ("letter: Letter::None,", "letter: Letter::Some(b'\\0'),"),
-        ("letter: Letter::None,", "letter: 0,"),
-        ("Letter::Some(b's')", "Letter::Some(b'S')"),
-        ("Letter::Some(b's')", "Letter::Some(b'x')"),
-        ("Letter::Some(b'p')", "Letter::None"),
-        ("*b\"ping\\0\\0\"", "*b\"pong\\0\\0\""),
-        ("*b\"ping\\0\\0\"", "*b\"PING\\0\\0\""),
-        ("*b\"ping\\0\\0\"", "*b\"ping\""),
-        ("len: 6,", "len: 5,"),
-        ("id: 7,", "id: 8,"),
-        ("id: 1,", "id: 2,"),
-        ("        len: 6,\n", ""),
+        ("letter: None,", "letter: Some(b'h'),"),
+        ("letter: None,", "letter: Some(b'\\0'),"),
+        ("letter: None,", "letter: 0,"),
+        ("Some(b's')", "Some(b'S')"),
+        ("Some(b's')", "Some(b'x')"),
+        ("Some(b'p')", "None"),
+        ("b\"ping\"", "b\"pong\""),
+        ("b\"ping\"", "b\"PING\""),
+        ("b\"ping\"", "b\"ping\\0\""),
+        ("b\"ping\"", "b\"\""),
+        ("id: CommandId::Ping,", "id: CommandId::Pong,"),
+        ("id: CommandId::Sub,", "id: CommandId::Unsub,"),
+        ("id: CommandId::Sub,", "id: 1,"),
+        ("        letter: Some(b's'),\n", ""),
         ("const ROWS: [Row; 8]", "const ROWS: [Row; 9]"),
     ] {
         assert!(source.contains(from), "{SOURCE} has no {from}");
         let altered = source.replacen(from, to, 1);
-        assert_ne!(rows_of_source(&altered), Ok(rows()), "{to}");
+        assert_ne!(rows_of_source(&altered, &ids), Ok(rows()), "{to}");
+    }
+    for (from, to) in [
+        ("CommandId::Ping => 7,", "CommandId::Ping => 8,"),
+        ("CommandId::Sub => 1,", "CommandId::Sub => 2,"),
+        ("            CommandId::Sub => 1,\n", ""),
+    ] {
+        assert!(ids.contains(from), "{IDS} has no {from}");
+        let altered = ids.replacen(from, to, 1);
+        assert_ne!(rows_of_source(&source, &altered), Ok(rows()), "{to}");
     }
 }
 

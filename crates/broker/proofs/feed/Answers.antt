@@ -10,24 +10,21 @@ use Rattle.framing.specs.Framing.{message}
 use Rattle.wire.specs.Received.{is_whole}
 use Rattle.store.proofs.Indexing.{zeros-indexed}
 use Rattle.model.specs.State.{slot_at}
+use Rattle.model.proofs.Decisions.{feed-free, feed-shut}
 use Rattle.memory.specs.Image.{is_used, client_at, image_of}
 use Rattle.memory.specs.Rules.{memory_fine}
 use Rattle.memory.proofs.Fine.{fine-sound}
-use Rattle.broker.specs.FeedParts.{Speaking}
-use Rattle.broker.proofs.Serving.{serves-broken, serves-unaltered, slot-inside, client-is}
-use Rattle.broker.proofs.Deciding.{not-used}
 use Rattle.infod3.specs.Infod3.{infod3}
-use Rattle.model.proofs.Decisions.{feed-free, feed-shut}
+use Rattle.broker.specs.FeedParts.{Speaking}
+use Rattle.broker.proofs.Serving.{failed, serves-as, serves-broken, serves-unaltered, slot-inside, client-is}
+use Rattle.broker.proofs.Deciding.{not-used}
 use Rattle.broker.proofs.Cuts.{cut-kind, cut-limited, feed-partial}
 use Rattle.broker.proofs.Fed.{open-client, sending-as, serves-fed}
 use Rattle.broker.proofs.feed.Goals as goal
-use Rattle.broker.proofs.feed.Goals.{After-is_partial, Else-is_shut, Else-is_vacant, Else-not-is_fine_indexing}
+use Rattle.broker.proofs.feed.Goals.{After-is_partial, Else-is_shut, Else-not-is_fine_indexing}
 
 fine : (c : Else-not-is_fine_indexing) → memory_fine c.args.mem.now ≡ true
 fine c = sym c.is_fine_indexing.ensures.0 ∙ c.if-not-is_fine_indexing.false
-
-client : (c : Else-is_vacant) → is_used (slot_at c.args.slot (image_of c.args.mem.now)) ≡ true
-client c = not-false _ (sym c.is_vacant.ensures ∙ c.if-is_vacant.false)
 
 not-shut : (c : Else-is_shut) → (client_at c.args.slot (image_of c.args.mem.now)).shut ≡ false
 not-shut c = sym c.is_shut.ensures ∙ c.if-is_shut.false
@@ -65,42 +62,38 @@ is_fine_indexing-requires c = zeros-indexed 32
 
 pub returns-then-not-is_fine_indexing : goal.returns-then-not-is_fine_indexing
 returns-then-not-is_fine_indexing c =
-    serves-broken (sym c.is_fine_indexing.ensures.0 ∙ c.if-not-is_fine_indexing.true)
-    c.unaltered.ensures.0 c.unaltered.ensures.1 refl
+    serves-broken (sym c.is_fine_indexing.ensures.0 ∙ c.if-not-is_fine_indexing.true) refl refl refl
 
-pub is_vacant-requires : goal.is_vacant-requires
-is_vacant-requires c = fine-sound c.args.mem.now (fine (goal.at.is_vacant-requires c).Else-not-is_fine_indexing)
+pub client_in-requires : goal.client_in-requires
+client_in-requires c = fine-sound c.args.mem.now (fine (goal.at.client_in-requires c).Else-not-is_fine_indexing)
 
-pub returns-then-is_vacant : goal.returns-then-is_vacant
-returns-then-is_vacant c =
+pub returns-in_err-client_in : goal.returns-in_err-client_in
+returns-in_err-client_in c =
     let im = image_of c.args.mem.now in
     let i = c.args.slot in
-    serves-unaltered 2 (fine (goal.at.returns-then-is_vacant c).Else-not-is_fine_indexing)
-    (feed-free infod3 im i c.args.input.now
-    (not-used (slot_at i im) (not-true (is_used (slot_at i im)) (sym c.is_vacant.ensures ∙ c.if-is_vacant.true))))
-    c.unaltered-then-is_vacant.ensures.0 c.unaltered-then-is_vacant.ensures.1 refl
+    let f = c.in_err-client_in.ensures in
+    serves-as (failed c.from_residual.ensures.1 f.1)
+    (serves-unaltered 2 (fine (goal.at.returns-in_err-client_in c).Else-not-is_fine_indexing)
+    (feed-free infod3 im i c.args.input.now (not-used (slot_at i im) f.0)) refl refl refl)
 
 pub is_shut-requires : goal.is_shut-requires
 is_shut-requires c =
-    let w = goal.at.is_shut-requires c in
-    slot-inside (fine w.Else-not-is_fine_indexing) (client w.Else-is_vacant)
+    slot-inside (fine (goal.at.is_shut-requires c).Else-not-is_fine_indexing) c.in_ok-client_in.ensures
 
 pub returns-then-is_shut : goal.returns-then-is_shut
 returns-then-is_shut c =
-    let w = goal.at.returns-then-is_shut c in
     let im = image_of c.args.mem.now in
     let i = c.args.slot in
-    serves-unaltered 3 (fine w.Else-not-is_fine_indexing)
-    (feed-shut infod3 im i c.args.input.now (client_at i im) (client-is i im (client w.Else-is_vacant))
+    serves-unaltered 3 (fine (goal.at.returns-then-is_shut c).Else-not-is_fine_indexing)
+    (feed-shut infod3 im i c.args.input.now (client_at i im) (client-is i im c.in_ok-client_in.ensures)
     (sym c.is_shut.ensures ∙ c.if-is_shut.true))
-    c.unaltered-then-is_shut.ensures.0 c.unaltered-then-is_shut.ensures.1 refl
+    refl refl refl
 
 pub kind-kind-requires : goal.kind-kind-requires
 kind-kind-requires c =
-    let w = goal.at.kind-kind-requires c in
     record {
-      in-slot = slot-inside (fine w.Else-not-is_fine_indexing) (client w.Else-is_vacant);
-      has-client = client w.Else-is_vacant;
+      in-slot = slot-inside (fine (goal.at.kind-kind-requires c).Else-not-is_fine_indexing) c.in_ok-client_in.ensures;
+      has-client = c.in_ok-client_in.ensures;
     }
 
 pub returns-then-is_partial : goal.returns-then-is_partial
@@ -109,9 +102,9 @@ returns-then-is_partial c =
     let im = image_of c.args.mem.now in
     let i = c.args.slot in
     serves-unaltered 1 (fine w.Else-not-is_fine_indexing)
-    (feed-partial im i c.args.input.now (client_at i im) (client-is i im (client w.Else-is_vacant))
+    (feed-partial im i c.args.input.now (client_at i im) (client-is i im c.in_ok-client_in.ensures)
     (not-shut w.Else-is_shut) (not-true _ (sym (whole-test w.After-is_partial) ∙ c.if-is_partial.true)))
-    c.unaltered-then-is_partial.ensures.0 c.unaltered-then-is_partial.ensures.1 refl
+    refl refl refl
 
 pub feed_message-requires : goal.feed_message-requires
 feed_message-requires c =
@@ -120,7 +113,7 @@ feed_message-requires c =
     let whole = not-false _ (sym (whole-test w.After-is_partial) ∙ c.if-is_partial.false) in (
       sending-as c.kind-kind.ensures (is_cut w.After-is_partial)
           (record {
-            speaking = spoken c.args.mem.now c.args.slot (fine w.Else-not-is_fine_indexing) (client w.Else-is_vacant)
+            speaking = spoken c.args.mem.now c.args.slot (fine w.Else-not-is_fine_indexing) c.in_ok-client_in.ensures
                 (not-shut w.Else-is_shut);
             whole = whole;
             limited = rw (cut-kind k c.args.input.now whole) (cut-limited k c.args.input.now);
@@ -128,12 +121,22 @@ feed_message-requires c =
       c.is_fine_indexing.ensures.1,
     )
 
-pub returns : goal.returns
-returns c =
-    let w = goal.at.returns c in
+pub returns-in-Ok : goal.returns-in-Ok
+returns-in-Ok c =
+    let w = goal.at.returns-in-Ok c in
     serves-fed
-    (spoken c.args.mem.now c.args.slot (fine w.Else-not-is_fine_indexing) (client w.Else-is_vacant)
+    (spoken c.args.mem.now c.args.slot (fine w.Else-not-is_fine_indexing) c.in_ok-client_in.ensures
     (not-shut w.Else-is_shut))
     c.args.input.now (not-false _ (sym (whole-test w.After-is_partial) ∙ c.if-is_partial.false))
     c.kind-kind.ensures (is_cut w.After-is_partial)
-    c.feed_message.ensures
+    c.in-Ok.ensures
+
+pub returns-in-Err : goal.returns-in-Err
+returns-in-Err c =
+    let w = goal.at.returns-in-Err c in
+    serves-fed
+    (spoken c.args.mem.now c.args.slot (fine w.Else-not-is_fine_indexing) c.in_ok-client_in.ensures
+    (not-shut w.Else-is_shut))
+    c.args.input.now (not-false _ (sym (whole-test w.After-is_partial) ∙ c.if-is_partial.false))
+    c.kind-kind.ensures (is_cut w.After-is_partial)
+    c.in-Err.ensures

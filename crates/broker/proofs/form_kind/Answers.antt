@@ -1,14 +1,17 @@
+-- `broker::form_kind` meets its contract.
+use mathlib.Core.Path.{refl}
 use native.Mathlib.Omega.{arith}
-use borrow.Author.Tests.{eq-eqb, ne_eqb}
 use Rattle.model.specs.Calls.{opening_of}
-use Rattle.broker.proofs.Deciding.{form-stream}
+use Rattle.broker.proofs.Deciding.{form-stream, form-unknown}
 use Rattle.broker.proofs.form_kind.Goals as goal
 
-pub returns-then-form-eq0 : goal.returns-then-form-eq0
+pub returns-in-0 : goal.returns-in-0
 unfolding opening_of
-returns-then-form-eq0 c =
-    let form = c.args.form in
-    rw (eq-eqb form 0 c.if-form-eq0.true, ne_eqb form 2 (λ e. omega (arith, c.if-form-eq0.true)))
+returns-in-0 c = rw c.in-0.is
 
-pub returns : goal.returns
-returns c = form-stream c.args.form c.requires c.if-form-eq0.false
+pub returns-in_default : goal.returns-in_default
+returns-in_default c =
+    (form-unknown c.args.form (omega arith), refl)
+
+pub returns-in-1 : goal.returns-in-1
+returns-in-1 c = form-stream c.args.form (omega arith) (λ e. omega arith)

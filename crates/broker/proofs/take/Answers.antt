@@ -1,106 +1,86 @@
 -- `broker::take` meets its contract.
 use mathlib.Core.Path.{◌≡◌, refl, sym, ap, ◌∙◌}
-use mathlib.Core.Bool.{true, false}
+use mathlib.Core.Bool.{true}
+use Prim.Native.Nat.{ℕ}
 use native.Mathlib.Omega.{arith}
 use lib.ListN.{length}
 use borrow.Author.Tests.{not-true, not-false}
-use Rattle.model.specs.Decision.{takes, Reply}
-use Rattle.queue.specs.Rows.{is_empty}
+use Rattle.octets.specs.Octets.{Bytes}
+use Rattle.model.specs.Decision.{takes, Reply, unaltered}
+use Rattle.model.specs.Calls.{decide}
 use Rattle.model.specs.State.{slot_at}
+use Rattle.model.proofs.Decisions.{take-free}
 use Rattle.memory.specs.Image.{is_used, client_at, image_of}
 use Rattle.memory.specs.Rules.{memory_fine}
 use Rattle.memory.specs.Promises.{InResting}
 use Rattle.memory.proofs.Fine.{fine-sound, fine-client}
 use Rattle.infod3.specs.Infod3.{infod3}
+use Rattle.refinement.specs.Promises.{Takes}
 use Rattle.refinement.proofs.Events.{after_event-took}
 use Rattle.refinement.proofs.Ends.{becomes-as}
-use Rattle.broker.proofs.Serving.{serves-broken, serves-unaltered, serves-done, never-answered, slot-inside}
-use Rattle.broker.proofs.Serving.{reply-decided, reply-broken, takes-nothing, client-is}
-use Rattle.model.proofs.Decisions.{take-free}
+use Rattle.broker.proofs.Serving.{failed, takes-as, takes-nothing, serves-broken, serves-unaltered, serves-done}
+use Rattle.broker.proofs.Serving.{never-answered, slot-inside, client-is, reply-decided, reply-broken}
 use Rattle.broker.proofs.Deciding.{not-used, take-empty, take_short, take-first}
 use Rattle.broker.proofs.take.Goals as goal
-use Rattle.broker.proofs.take.Goals.{Else-is_vacant, Else-not-has_message, Else-not-is_fine, Then-not-is_fine}
 
-broken : (c : Then-not-is_fine) → memory_fine c.args.mem.now ≡ false
-broken c = sym c.is_fine.ensures ∙ c.if-not-is_fine.true
+-- the client rests
+resting : {m : Bytes} {i : ℕ} → memory_fine m ≡ true → is_used (slot_at i (image_of m)) ≡ true → InResting m i
+resting {m} {i} f u = fine-client m i f (slot-inside f u).inside u
 
-fine : (c : Else-not-is_fine) → memory_fine c.args.mem.now ≡ true
-fine c = sym c.is_fine.ensures ∙ c.if-not-is_fine.false
+-- a take that alters nothing
+nothing : {m out : Bytes} {i k : ℕ} → memory_fine m ≡ true
+    → decide infod3 (takes i (length out)) (image_of m) ≡ unaltered k → Takes infod3 i m out k 0 m out
+nothing {m} {out} {i} {k} f d =
+    takes-nothing (serves-unaltered k f d refl refl refl)
+    (ap (λ (r : Reply). r.bytes) (reply-decided (takes i (length out)) m _ f d)) refl
 
-client : (c : Else-is_vacant) → is_used (slot_at c.args.slot (image_of c.args.mem.now)) ≡ true
-client c = not-false _ (sym c.is_vacant.ensures ∙ c.if-is_vacant.false)
+pub returns-in_err-check : goal.returns-in_err-check
+returns-in_err-check c =
+    let f = c.in_err-check.ensures in
+    takes-as (failed c.from_residual.ensures.1 f.1)
+    (takes-nothing (serves-broken f.0 refl refl refl) (ap (λ (r : Reply). r.bytes) (reply-broken _ _ f.0)) refl)
 
-fine-2 : (c : Else-is_vacant) → memory_fine c.args.mem.now ≡ true
-fine-2 c = sym c.is_fine.ensures ∙ c.if-not-is_fine.false
+pub client_in-requires : goal.client_in-requires
+client_in-requires c = fine-sound c.args.mem.now c.in_ok-check.ensures
 
-resting : (c : Else-is_vacant) → InResting c.args.mem.now c.args.slot
-resting c =
-    fine-client c.args.mem.now c.args.slot (fine-2 c)
-    (slot-inside (fine-2 c) (client c)).inside (client c)
-
-waiting : (c : Else-not-has_message)
-    → is_empty (client_at c.args.slot (image_of c.args.mem.now)).queue.queued ≡ false
-waiting c = not-true _ (sym c.has_message.ensures ∙ c.if-not-has_message.false)
-
-pub returns-then-not-is_fine : goal.returns-then-not-is_fine
-returns-then-not-is_fine c =
-    let f = broken (goal.at.returns-then-not-is_fine c).Then-not-is_fine in
-    takes-nothing (serves-broken f c.unaltered.ensures.0 c.unaltered.ensures.1 refl)
-    (ap (λ (r : Reply). r.bytes) (reply-broken _ _ f)) refl
-
-pub is_vacant-requires : goal.is_vacant-requires
-is_vacant-requires c =
-    fine-sound c.args.mem.now (fine (goal.at.is_vacant-requires c).Else-not-is_fine)
-
-pub returns-then-is_vacant : goal.returns-then-is_vacant
-returns-then-is_vacant c =
-    let m = c.args.mem.now in
+pub returns-in_err-client_in : goal.returns-in_err-client_in
+returns-in_err-client_in c =
+    let im = image_of c.args.mem.now in
     let i = c.args.slot in
-    let len = length c.args.out.now in
-    let f = fine (goal.at.returns-then-is_vacant c).Else-not-is_fine in
-    let d =
-    take-free infod3 (image_of m) i len (not-used (slot_at i (image_of m))
-    (not-true (is_used (slot_at i (image_of m))) (sym c.is_vacant.ensures ∙ c.if-is_vacant.true)))
-    in
-    takes-nothing (serves-unaltered 2 f d c.unaltered-then-is_vacant.ensures.0 c.unaltered-then-is_vacant.ensures.1 refl)
-    (ap (λ (r : Reply). r.bytes) (reply-decided (takes i len) m _ f d)) refl
+    let f = c.in_err-client_in.ensures in
+    takes-as (failed c.from_residual-in_err-client_in.ensures.1 f.1)
+    (nothing c.in_ok-check.ensures
+    (take-free infod3 im i (length c.args.out.now) (not-used (slot_at i im) f.0)))
 
 pub has_message-requires : goal.has_message-requires
-has_message-requires c = resting (goal.at.has_message-requires c).Else-is_vacant
+has_message-requires c = resting c.in_ok-check.ensures c.in_ok-client_in.ensures
 
 pub returns-then-not-has_message : goal.returns-then-not-has_message
 returns-then-not-has_message c =
-    let m = c.args.mem.now in
+    let im = image_of c.args.mem.now in
     let i = c.args.slot in
-    let len = length c.args.out.now in
-    let f = fine (goal.at.returns-then-not-has_message c).Else-not-is_fine in
-    let d =
-    take-empty infod3 (image_of m) i len (client_at i (image_of m)) (client-is i (image_of m) (client (goal.at.returns-then-not-has_message c).Else-is_vacant))
-    (not-false _ (sym c.has_message.ensures ∙ c.if-not-has_message.true)) in
-    takes-nothing (serves-unaltered 6 f d c.unaltered-then-not-has_message.ensures.0 c.unaltered-then-not-has_message.ensures.1 refl)
-    (ap (λ (r : Reply). r.bytes) (reply-decided (takes i len) m _ f d)) refl
+    nothing c.in_ok-check.ensures
+    (take-empty infod3 im i (length c.args.out.now) (client_at i im) (client-is i im c.in_ok-client_in.ensures)
+    (not-false _ (sym c.has_message.ensures ∙ c.if-not-has_message.true)))
 
 pub first_length-requires : goal.first_length-requires
-first_length-requires c = resting (goal.at.first_length-requires c).Else-is_vacant
+first_length-requires c = resting c.in_ok-check.ensures c.in_ok-client_in.ensures
 
 pub returns-then-out-first_length : goal.returns-then-out-first_length
 returns-then-out-first_length c =
-    let m = c.args.mem.now in
+    let im = image_of c.args.mem.now in
     let i = c.args.slot in
-    let len = length c.args.out.now in
-    let f = fine (goal.at.returns-then-out-first_length c).Else-not-is_fine in
     let short = c.if-out-first_length.true in
-    let d =
-    take_short infod3 (image_of m) i len (client_at i (image_of m)) (client-is i (image_of m) (client (goal.at.returns-then-out-first_length c).Else-is_vacant)) (waiting (goal.at.returns-then-out-first_length c).Else-not-has_message)
-    (omega (arith, short, c.first_length.ensures)) in
-    takes-nothing (serves-unaltered 5 f d c.unaltered-then-out-first_length.ensures.0 c.unaltered-then-out-first_length.ensures.1 refl)
-    (ap (λ (r : Reply). r.bytes) (reply-decided (takes i len) m _ f d)) refl
+    nothing c.in_ok-check.ensures
+    (take_short infod3 im i (length c.args.out.now) (client_at i im) (client-is i im c.in_ok-client_in.ensures)
+    (not-true _ (sym c.has_message.ensures ∙ c.if-not-has_message.false))
+    (omega (arith, short, c.first_length.ensures)))
 
 pub take-requires : goal.take-requires
 take-requires c =
     let long = c.if-out-first_length.false in
     record {
-      in-resting = resting (goal.at.take-requires c).Else-is_vacant;
+      in-resting = resting c.in_ok-check.ensures c.in_ok-client_in.ensures;
       room = omega (arith, long, c.first_length.ensures);
     }
 
@@ -109,16 +89,16 @@ returns c =
     let m = c.args.mem.now in
     let i = c.args.slot in
     let len = length c.args.out.now in
-    let f = fine (goal.at.returns c).Else-not-is_fine in
+    let f = c.in_ok-check.ensures in
     let long = c.if-out-first_length.false in
     let t = c.take.ensures in
     let d =
-    take-first infod3 (image_of m) i len (client_at i (image_of m)) (client-is i (image_of m) (client (goal.at.returns c).Else-is_vacant)) (waiting (goal.at.returns c).Else-not-has_message)
+    take-first infod3 (image_of m) i len (client_at i (image_of m)) (client-is i (image_of m) c.in_ok-client_in.ensures)
+    (not-true _ (sym c.has_message.ensures ∙ c.if-not-has_message.false))
     (omega (arith, long, c.first_length.ensures)) in
     record {
       serves =
-          serves-done _ f d c.done.ensures.0 (c.done.ensures.1 ∙ t.count)
-          (λ l h. absurd (never-answered l c.done.ensures.0))
+          serves-done _ f d refl t.count (λ l h. absurd (never-answered l refl))
           (becomes-as (sym (after_event-took infod3 (image_of m) i)) t.left);
       written = rw (reply-decided (takes i len) m _ f d) t.copied;
     }

@@ -7,43 +7,31 @@ use Rattle.commit.proofs.pattern_turn.Goals as goal
 pub returns-then-sub_refused : goal.returns-then-sub_refused
 returns-then-sub_refused c =
     let A = c.args in
-    let p = A.pattern.now in
-    let q = A.patterns.now in
-    let h = c.sub_refused.ensures in
-    sub-stopped A.id p q A.t _ c.requires.patterns-fine c.if-id-eq1.true h c.if-sub_refused.true
+    rw c.in-Sub.is
+    (sub-stopped A.pattern.now A.patterns.now A.t _ c.requires.patterns-fine c.sub_refused.ensures c.if-sub_refused.true)
 
 pub add-requires : goal.add-requires
 add-requires c =
     let A = c.args in
-    let p = A.pattern.now in
-    let q = A.patterns.now in
-    let h = c.sub_refused.ensures in
     record {
       fine = c.requires.patterns-fine;
-      short = sub-short A.id (length p) c.if-id-eq1.true c.requires.known;
-      few = sub-room q p _ h c.if-sub_refused.false;
+      short = sub-short (length A.pattern.now) (rw c.in-Sub.is at c.requires.known);
+      few = sub-room A.patterns.now A.pattern.now _ c.sub_refused.ensures c.if-sub_refused.false;
     }
 
-pub returns-then-id-eq1 : goal.returns-then-id-eq1
-returns-then-id-eq1 c =
+pub returns-else-sub_refused : goal.returns-else-sub_refused
+returns-else-sub_refused c =
     let A = c.args in
-    let p = A.pattern.now in
-    let q = A.patterns.now in
-    let h = c.sub_refused.ensures in
-    sub-taken A.id p q _ A.t _ c.if-id-eq1.true
-    h c.if-sub_refused.false c.add.ensures
+    rw c.in-Sub.is
+    (sub-taken A.pattern.now A.patterns.now _ A.t _ c.sub_refused.ensures c.if-sub_refused.false c.add.ensures)
 
-pub returns-then-id-eq2 : goal.returns-then-id-eq2
-returns-then-id-eq2 c =
+pub returns-in-Unsub : goal.returns-in-Unsub
+returns-in-Unsub c =
     let A = c.args in
-    let p = A.pattern.now in
-    let q = A.patterns.now in
-    let h = c.remove.ensures in
-    unsub-taken A.id p q _ A.t c.if-id-eq2.true h
+    rw c.in-Unsub.is (unsub-taken A.pattern.now A.patterns.now _ A.t c.remove.ensures)
 
-pub returns : goal.returns
-returns c =
+pub returns-in_default : goal.returns-in_default
+returns-in_default c =
     let A = c.args in
-    let p = A.pattern.now in
-    let q = A.patterns.now in
-    other-taken A.id p q A.t c.requires.patterns-fine c.if-id-eq1.false c.if-id-eq2.false c.requires.other
+    other-taken A.id A.pattern.now A.patterns.now A.t c.requires.patterns-fine
+    c.in_default.not-Sub c.in_default.not-Unsub c.requires.other

@@ -3,4 +3,4 @@ use Rattle.ffi.proofs.Given.{serves-given}
 use Rattle.ffi.proofs.infod3_close.Goals as goal
 
 pub returns : goal.returns
-returns c = serves-given c.for_c.ensures.0 c.for_c.ensures.1 c.close.ensures
+returns c = serves-given c.from.ensures.0 c.from.ensures.1 c.close.ensures

@@ -1,11 +1,7 @@
-use mathlib.Core.Path.{◌≡◌}
-use Prim.Native.Nat.{◌≤◌, ◌+◌, ◌-◌}
-use lib.ListN.{length, drop}
+use Rattle.std.proofs.Common.{◌≡◌, ◌+◌, drop}
 use Rattle.framing.specs.Framing.{line_end}
 use Rattle.framing.proofs.end_from.Given as goal
 
+-- from `at` to i no byte ends a line
 abbrev pub invariant-loop-i : goal.invariant-loop-i
-invariant-loop-i l = (l.at ≤ l.i) × (l.i ≤ length l.s) × (line_end (drop l.at l.s) + l.at ≡ line_end (drop l.i l.s) + l.i)
-
-abbrev pub decreases-loop-i : goal.decreases-loop-i
-decreases-loop-i l = length l.s - l.i
+invariant-loop-i l = line_end (drop l.at l.s) + l.at ≡ line_end (drop l.i l.s) + l.i

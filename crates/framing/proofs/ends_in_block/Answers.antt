@@ -1,23 +1,18 @@
--- `framing::ends_in_block`: n is how many of the first i bytes from `at` on end a line.
-use mathlib.Core.Path.{◌≡◌}
-use Prim.Native.Nat.{◌+◌}
-use native.Mathlib.Omega.{arith}
-use Rattle.framing.proofs.Laws.{block_start, block-next, end_count-le}
+-- `framing::ends_in_block`: n is how many of the bytes that were looked at end a line.
+use Rattle.std.proofs.Common.{◌+◌, ◌-◌, take, drop, arith}
+use Rattle.framing.specs.Ends.{ends}
+use Rattle.framing.proofs.Laws.{ends-take-suc, end_count-byte, bool_byte-le}
 use Rattle.framing.proofs.ends_in_block.Goals as goal
 
-pub loop-i-init : goal.loop-i-init
-loop-i-init c = (omega arith, omega arith, block_start c.args.s.now c.args.at 0)
+pub loop-c-init : goal.loop-c-init
+unfolding ends
+loop-c-init c = (omega arith, omega arith)
 
-pub loop-i-preserved : goal.loop-i-preserved
-loop-i-preserved c =
-    let s = c.args.s.now in
-    let at = c.args.at in
-    let i = c.loop-i.i in
-    let h = block-next s at i (omega arith) in
-    let k = end_count-le s (at + i) in
-    (omega arith, omega arith, omega arith)
-
-pub returns : goal.returns
-returns c =
-    let e : c.loop-i.i ≡ 32 = omega arith in
-    rw e at c.loop-i.invariant.2
+pub loop-c-preserved : goal.loop-c-preserved
+loop-c-preserved c =
+    let A = c.args in
+    let L = c.loop-c in
+    let s = take (A.at + 32 - A.at) (drop A.at A.s.now) in
+    let e = end_count-byte c.ends_line.result _ c.ends_line.ensures in
+    let b = bool_byte-le c.ends_line.result in
+    (omega arith, omega (arith, ends-take-suc s L.c-index c.loop-c-test.true))

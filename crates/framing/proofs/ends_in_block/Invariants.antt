@@ -1,11 +1,7 @@
-use mathlib.Core.Path.{◌≡◌}
-use Prim.Native.Nat.{◌≤◌, ◌-◌}
-use lib.ListN.{take, drop}
+use Rattle.std.proofs.Common.{◌≡◌, ◌≤◌, take}
 use Rattle.framing.specs.Ends.{ends}
 use Rattle.framing.proofs.ends_in_block.Given as goal
 
-abbrev pub invariant-loop-i : goal.invariant-loop-i
-invariant-loop-i l = (l.i ≤ 32) × (l.n ≤ l.i) × (l.n ≡ ends (take l.i (drop l.at l.s)))
-
-abbrev pub decreases-loop-i : goal.decreases-loop-i
-decreases-loop-i l = 32 - l.i
+-- n bytes end a line among those that were looked at
+abbrev pub invariant-loop-c : goal.invariant-loop-c
+invariant-loop-c l = (l.n ≤ l.c-index) × (l.n ≡ ends (take l.c-index l.c-items))

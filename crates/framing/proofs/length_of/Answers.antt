@@ -1,4 +1,5 @@
 -- `framing::length_of` goes by the kind.
+use Rattle.std.proofs.Common.{◌∙◌}
 use Rattle.framing.specs.Framing.{length_of}
 use Rattle.framing.proofs.length_of.Goals as goal
 
@@ -12,8 +13,8 @@ returns-in-Stream c = rw c.in-Stream.is
 
 pub returns-in-Framed : goal.returns-in-Framed
 unfolding length_of
-returns-in-Framed c = rw c.in-Framed.is c.frame_length.ensures
+returns-in-Framed c = rw c.in-Framed.is (c.unwrap_or.ensures ∙ c.frame_length.ensures)
 
 pub returns-in-Text : goal.returns-in-Text
 unfolding length_of
-returns-in-Text c = rw c.in-Text.is c.line_length.ensures
+returns-in-Text c = rw c.in-Text.is (c.unwrap_or-in-Text.ensures ∙ c.line_length.ensures)

@@ -1,25 +1,10 @@
-use Rattle.octets.specs.Octets.{ascii}
-use Rattle.protocol.specs.Terms.{message_payload}
-use Rattle.message.specs.Rows.{row_in, row_of}
+use Rattle.std.proofs.Common.{◌∙◌}
 use Rattle.message.specs.Forms.{encoded, written}
-use Rattle.message.specs.Writing.{said}
-use Rattle.message.proofs.FormLaws.{key-value}
+use Rattle.message.proofs.FormLaws.{length_with-within}
 use Rattle.message.proofs.written_length.Goals as goal
 
-pub returns-in-Version : goal.returns-in-Version
-unfolding ascii said message_payload row_in row_of encoded written
-returns-in-Version c = rw c.in-Version.is c.message_length.ensures
-
-pub returns-in-Info : goal.returns-in-Info
-unfolding ascii said message_payload row_in row_of encoded written
-returns-in-Info c = rw
-    (c.in-Info.is, key-value c.args.body.now)
-    c.message_length-in-Info.ensures
-
-pub returns-in-Pong : goal.returns-in-Pong
-unfolding ascii said message_payload row_in row_of encoded written
-returns-in-Pong c = rw c.in-Pong.is c.message_length-in-Pong.ensures
-
-pub returns-in-Error : goal.returns-in-Error
-unfolding ascii said message_payload row_in row_of encoded written
-returns-in-Error c = rw c.in-Error.is c.error_length.ensures
+pub returns : goal.returns
+unfolding encoded written
+returns c =
+    rw (← c.content.ensures.row, ← c.content.ensures.payload)
+    (c.unwrap_or.ensures ∙ rw c.message_length.ensures (length_with-within _ _))

@@ -1,31 +1,21 @@
-use native.Mathlib.Omega.{arith}
-use mathlib.Core.Path.{refl, sym, ◌∙◌}
-use lib.ListN.{length-set}
-use Rattle.octets.proofs.Laws.{sets-out, sets-take-suc, sets-clipped}
+use Rattle.std.proofs.Common.{take, ◌≡◌, ◌∙◌, ◌+◌, ◌-◌, length, sym, ap, arith}
+use Rattle.std.proofs.lemmas.List.Edits.{sets}
+use lib.Seq.{length-take-le}
+use Rattle.octets.proofs.Laws.{sets-out, sets-clipped}
+use Rattle.octets.proofs.Parts.{lent-part}
 use Rattle.octets.proofs.copy.Goals as goal
 
 pub returns-then-dst-at : goal.returns-then-dst-at
-returns-then-dst-at c = let A = c.args in sym
-    (sets-out A.dst.now A.at A.src.now c.if-dst-at.true)
-
-pub loop-i-init : goal.loop-i-init
-loop-i-init c = (omega arith, c.min-n.ensures, refl, refl)
-
-pub loop-i-preserved : goal.loop-i-preserved
-loop-i-preserved c =
+returns-then-dst-at c =
     let A = c.args in
-    let L = c.loop-i in (
-      omega arith,
-      L.invariant.1,
-      rw L.invariant.2 (sets-take-suc A.dst.now A.at A.src.now L.i (omega arith)),
-      simp length-set L.invariant.3,
-    )
-
-pub shape_of-dst : goal.shape_of-dst
-shape_of-dst c = c.loop-i.invariant.3
+    sym (sets-out A.dst.now A.at A.src.now c.if-dst-at.true)
 
 pub returns : goal.returns
 returns c =
     let A = c.args in
-    let L = c.loop-i in
-    L.invariant.2 ∙ sets-clipped A.dst.now A.at A.src.now L.i (omega arith)
+    let n = c.min-n.result in
+    let new = c.copy_from_slice in
+    let k : length (take n A.src.now) ≡ n = length-take-le n A.src.now (omega (arith, c.min-n.ensures)) in
+    let l : length new.new.self ≡ A.at + n - A.at = omega (arith, ap length new.ensures.after) in
+    lent-part A.dst.now A.at (A.at + n - A.at) new.new.self l (omega (arith, c.min-n.ensures))
+    ∙ ap (sets A.dst.now A.at) new.ensures.after ∙ sets-clipped A.dst.now A.at A.src.now n c.min-n.ensures

@@ -1,11 +1,6 @@
-use mathlib.Core.Path.{sym, ap, ◌∙◌}
-use Prim.Native.Nat.{ℕ}
-use lib.Dec.{ltb}
-use lib.ListN.{length}
-use Rattle.octets.proofs.Nul.{has_nul-first}
+use Rattle.std.proofs.Common.{◌∙◌}
+use Rattle.octets.proofs.Nul.{any_nul}
 use Rattle.octets.proofs.has_nul.Goals as goal
 
 pub returns : goal.returns
-returns c =
-    let s = c.args.s.now in
-    ap (λ (n : ℕ). ltb n (length s)) c.first_nul.ensures ∙ sym (has_nul-first s)
+returns c = c.contains.ensures.value ∙ any_nul c.args.s.now

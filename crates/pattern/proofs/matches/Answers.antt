@@ -6,20 +6,14 @@ use Rattle.pattern.proofs.matches.Goals as goal
 
 pub returns-then-not-is_valid : goal.returns-then-not-is_valid
 returns-then-not-is_valid c =
-    let v = sym c.is_valid.ensures ∙ c.if-not-is_valid.true in
-    matched _ _ _ (c.refusal.ensures ∙ sym (answer-invalid _ _ v))
+    matched _ _ _ (sym (answer-invalid _ _ (sym c.is_valid.ensures ∙ c.if-not-is_valid.true)))
 
 pub returns-then-is_too_long : goal.returns-then-is_too_long
 returns-then-is_too_long c =
     let v = sym c.is_valid.ensures ∙ c.if-not-is_valid.false in
-    matched _ _ _
-    (c.refusal-then-is_too_long.ensures ∙ sym (answer-long _ _ v (sym c.is_too_long.ensures ∙ c.if-is_too_long.true)))
+    matched _ _ _ (sym (answer-long _ _ v (sym c.is_too_long.ensures ∙ c.if-is_too_long.true)))
 
 pub returns : goal.returns
 returns c =
     let v = sym c.is_valid.ensures ∙ c.if-not-is_valid.false in
-    matched _ _ _
-    (sym (answer-ran _ _ (sym c.is_too_long.ensures ∙ c.if-is_too_long.false) _ c.run-r.ensures v))
-
-pub run-r-requires : goal.run-r-requires
-run-r-requires c = sym c.is_too_long.ensures ∙ c.if-is_too_long.false
+    matched _ _ _ (sym (answer-ran _ _ (sym c.is_too_long.ensures ∙ c.if-is_too_long.false) _ c.run.ensures v))

@@ -1,25 +1,18 @@
 use mathlib.Core.Path.{◌≡◌}
 use Prim.Native.Nat.{◌+◌}
 use native.Mathlib.Omega.{arith}
+use Rattle.protocol.specs.Ids.{id_of}
 use Rattle.recording.specs.Region.{used_of, count_of}
-use Rattle.recording.proofs.Regions.{fine-rules}
 use Rattle.recording.proofs.Writing.{space, row_written, becomes-added}
 use Rattle.recording.proofs.add.Goals as goal
 
-pub u32_at-used-requires : goal.u32_at-used-requires
-u32_at-used-requires c = omega (arith, (fine-rules c.requires.fine).head)
-
-pub u32_at-n-requires : goal.u32_at-n-requires
-u32_at-n-requires c =
-    omega (arith, (fine-rules c.requires.fine).head)
-
-pub put_u24-requires : goal.put_u24-requires
+pub put_number-requires : goal.put_number-requires
 unfolding used_of
-put_u24-requires c =
+put_number-requires c =
     let A = c.args in
     let r = A.r.now in
-    let s = space r A.id A.payload.now c.requires in
-    let eu : c.u32_at-used.result ≡ used_of r = c.u32_at-used.ensures.value in
+    let s = space r (id_of A.id) A.payload.now c.requires in
+    let eu : c.number_at-used.result ≡ used_of r = c.number_at-used.ensures.value in
     omega (arith, s.room)
 
 pub put_header-requires : goal.put_header-requires
@@ -27,8 +20,8 @@ unfolding used_of
 put_header-requires c =
     let A = c.args in
     let r = A.r.now in
-    let s = space r A.id A.payload.now c.requires in
-    let eu : c.u32_at-used.result ≡ used_of r = c.u32_at-used.ensures.value in
+    let s = space r (id_of A.id) A.payload.now c.requires in
+    let eu : c.number_at-used.result ≡ used_of r = c.number_at-used.ensures.value in
     omega (arith, s.room)
 
 pub returns : goal.returns
@@ -37,12 +30,13 @@ returns c =
     let A = c.args in
     let r = A.r.now in
     let p = A.payload.now in
-    let eu : c.u32_at-used.result ≡ used_of r = c.u32_at-used.ensures.value in
-    let en : c.u32_at-n.result ≡ count_of r = c.u32_at-n.ensures.value in
+    let eu : c.number_at-used.result ≡ used_of r = c.number_at-used.ensures.value in
+    let en : c.number_at-n.result ≡ count_of r = c.number_at-n.ensures.value in
     rw (
       c.put_header.ensures,
       c.copy.ensures,
-      c.put_u24.ensures,
+      c.put_number.ensures,
       c.put.ensures,
+      c.from.ensures,
     )
-    (rw (eu, en, row_written r (12 + used_of r) A.id p) (becomes-added r A.id p c.requires))
+    (rw (eu, en, row_written r (12 + used_of r) (id_of A.id) p) (becomes-added r (id_of A.id) p c.requires))

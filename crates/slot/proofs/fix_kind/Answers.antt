@@ -6,6 +6,6 @@ use Rattle.slot.proofs.fix_kind.Goals as goal
 pub returns : goal.returns
 returns c =
     let A = c.args in
-    λ R h. becomes-kind c.kind_byte.result h
+    λ R h. becomes-kind c.from.result h
     (says A.kind (hangs_up_in (kind_byte A.s.now))
-    (c.kind_byte.ensures ∙ ap (byte_for A.kind) c.hangs_up.ensures))
+    (c.from.ensures ∙ ap (byte_for A.kind) c.from-hangs.ensures.1))

@@ -4,9 +4,6 @@ use Rattle.step.specs.TurnParts.{entry_body}
 use Rattle.step.proofs.Entries.{copied}
 use Rattle.step.proofs.copy_body.Goals as goal
 
-pub body_at-body-requires : goal.body_at-body-requires
-body_at-body-requires c = rw c.store_part.ensures c.requires.0.row
-
 pub returns : goal.returns
 returns c =
     let a = c.args in

@@ -1,11 +1,10 @@
 -- `step::owe_match` meets its contract.
 use mathlib.Core.Path.{◌≡◌, sym, ◌∙◌}
-use mathlib.Core.Bool.{true}
 use native.Mathlib.Omega.{arith}
 use Rattle.pattern.specs.Answer.{accepted}
 use Rattle.step.specs.TurnParts.{entry_key}
 use Rattle.step.proofs.Entries.{row-body}
-use Rattle.step.proofs.Walk.{owing-yes, owing-no}
+use Rattle.step.proofs.Walk.{owing-no}
 use Rattle.step.proofs.owe_match.Goals as goal
 use Rattle.step.proofs.owe_match.Goals.{After-accepts, Else-not-accepts}
 
@@ -14,42 +13,15 @@ tested : (c : After-accepts)
     → c.accepts.result
     ≡ accepted c.args.pattern.now (entry_key c.args.mem.now c.args.at)
 tested c =
-    let k = rw c.store_part.ensures at c.key_at.ensures in
+    let k = rw c.store_part-store.ensures at c.key_at.ensures in
     rw k at c.accepts.ensures
-
--- the test is that of the entry's key
-tested-2 : (c : Else-not-accepts)
-    → c.accepts.result
-    ≡ accepted c.args.pattern.now (entry_key c.args.mem.now c.args.at)
-tested-2 c =
-    let k = rw c.store_part.ensures at c.key_at.ensures in
-    rw k at c.accepts.ensures
-
-matched : (c : Else-not-accepts)
-    → accepted c.args.pattern.now
-    (entry_key c.args.mem.now c.args.at) ≡ true
-matched c = sym (tested-2 c) ∙ c.if-not-accepts.false
-
-pub key_at-requires : goal.key_at-requires
-key_at-requires c = rw c.store_part.ensures c.requires.0.row
 
 pub returns-then-not-accepts : goal.returns-then-not-accepts
 returns-then-not-accepts c =
     owing-no _ c.args.slot _ (sym (tested (goal.at.returns-then-not-accepts c).After-accepts) ∙ c.if-not-accepts.true)
     c.requires.0.in-open.in-slot.sound
 
-pub row_size-requires : goal.row_size-requires
-row_size-requires c = rw c.store_part-2.ensures c.requires.0.row
-
-pub returns-then-row_size-gt519 : goal.returns-then-row_size-gt519
-returns-then-row_size-gt519 c =
-    owing-yes _ c.args.slot _ (matched (goal.at.returns-then-row_size-gt519 c).Else-not-accepts) c.owe_long_entry.ensures
-
 pub owe_entry_with-requires : goal.owe_entry_with-requires
 owe_entry_with-requires c =
-    let n = rw c.store_part-2.ensures at c.row_size.ensures in
+    let n = rw c.store_part-store.ensures at c.row_size.ensures in
     (c.requires.0, omega (arith, row-body _ c.requires.0.row, n, c.if-row_size-gt519.false, c.requires.1))
-
-pub returns : goal.returns
-returns c =
-    owing-yes _ c.args.slot _ (matched (goal.at.returns c).Else-not-accepts) c.owe_entry_with.ensures

@@ -1,6 +1,6 @@
 -- `step::turn_sub` meets its contract. The loop's invariant: the client is owed what the passed entries give, and the
 -- walk stands at the next one's row. The measure is what is left of the entries.
-use mathlib.Core.Path.{refl, sym, subst, ◌∙◌}
+use mathlib.Core.Path.{refl, sym, subst}
 use Prim.Native.Nat.{ℕ, ◌+◌}
 use native.Mathlib.Omega.{arith}
 use borrow.Author.Rules.{rules}
@@ -14,23 +14,16 @@ use Rattle.step.proofs.turn_sub.Goals.{After-owe_match}
 -- the entry has had its turn
 told : (c : After-owe_match)
     → Told c.args.slot c.args.pattern.now c.add_pattern.new.mem
-    c.owe_match.new.mem c.count-n.result c.loop-passed.at c.loop-passed.passed
+    c.owe_match.new.mem c.count-passed-end.result c.loop-passed.at c.loop-passed._passed
 told c = walk-told c.loop-passed.invariant.0 c.loop-passed-test.true c.owe_match.ensures
 
 pub add_pattern-requires : goal.add_pattern-requires
 add_pattern-requires c = turn-addable c.requires
 
-pub store_part-requires : goal.store_part-requires
-store_part-requires c = c.add_pattern.ensures.sound.headed
-
-pub count-n-requires : goal.count-n-requires
-count-n-requires c =
-    rw c.store_part.ensures c.add_pattern.ensures.sound.store
-
 pub loop-passed-init : goal.loop-passed-init
 loop-passed-init c =
-    let n = rw c.store_part.ensures at c.count-n.ensures in (
-      walk_start c.args.pattern.now c.count-n.result
+    let n = rw c.store_part.ensures at c.count-passed-end.ensures in (
+      walk_start c.args.pattern.now c.count-passed-end.result
           (added-open c.requires.in-open c.args.pattern.now c.add_pattern.ensures)
           (count_entries c.add_pattern.ensures.sound n),
       refl,
@@ -39,9 +32,6 @@ loop-passed-init c =
 pub owe_match-requires : goal.owe_match-requires
 owe_match-requires c =
     (walk-row c.loop-passed.invariant.0 c.loop-passed-test.true, omega (arith, c.loop-passed.invariant.1))
-
-pub store_part-requires-in-loop-passed : goal.store_part-requires-in-loop-passed
-store_part-requires-in-loop-passed c = c.owe_match.ensures.sound.headed
 
 pub row_size-at-requires : goal.row_size-at-requires
 row_size-at-requires c = rw c.store_part-in-loop-passed.ensures (told-row (told (goal.at.row_size-at-requires c).After-owe_match))
@@ -57,21 +47,12 @@ loop-passed-preserved c =
     let e = rw c.store_part-in-loop-passed.ensures at c.row_size-at.ensures in (
       subst (λ (n : ℕ).
           Walked a.slot a.pattern.now c.add_pattern.new.mem c.owe_match.new.mem
-          c.count-n.result (c.loop-passed.at + n) (c.loop-passed.passed + 1))
+          c.count-passed-end.result (c.loop-passed.at + n) (c.loop-passed._passed + 1))
           (sym e) (told-next (told (goal.at.loop-passed-preserved c).After-owe_match)),
       search rules,
     )
-
-pub shape_of-mem : goal.shape_of-mem
-shape_of-mem c = c.loop-passed.invariant.0.owing.size ∙ c.add_pattern.ensures.size
 
 pub returns : goal.returns
 returns c =
     sub-becomes c.requires.in-open c.args.pattern.now c.add_pattern.ensures
     (walk_end c.loop-passed.invariant.0 c.loop-passed-test.false)
-
-pub overflow_add-passed : goal.overflow_add-passed
-overflow_add-passed c = omega arith
-
-pub loop-passed-smaller : goal.loop-passed-smaller
-loop-passed-smaller c = omega arith

@@ -1,14 +1,13 @@
 -- `step::write_at` meets its contract.
-use mathlib.Core.Path.{◌≡◌, sym, subst, ◌∙◌}
+use mathlib.Core.Path.{◌≡◌, sym, ◌∙◌}
 use mathlib.Core.Bool.{true, not}
 use lib.ListN.{take}
 use borrow.Author.Tests.{not-true, not-false}
-use Rattle.octets.specs.Octets.{Bytes}
 use Rattle.model.specs.Step.{store_after}
 use Rattle.recording.specs.Encoding.{key_in, write_from}
 use Rattle.memory.specs.Image.{image_of, with_store}
 use Rattle.memory.specs.Rules.{Becomes}
-use Rattle.step.specs.TurnParts.{KeyAt, changed_by}
+use Rattle.step.specs.TurnParts.{changed_by}
 use Rattle.step.proofs.Writes.{key-behind, key-value, found-key, row-present}
 use Rattle.step.proofs.Writes.{write-within, write-ready, stored_some, stored-none}
 use Rattle.step.proofs.Writes.{wrote-same, wrote}
@@ -50,15 +49,6 @@ stored c =
           rw w.mem-is (stored_some h.writing h.key (key-value _ _ h.place w.in-Value.is) w.write_at.ensures)
     ]
 
-pub store_part-requires : goal.store_part-requires
-store_part-requires c = c.requires.writing.sound.headed
-
-pub is_unchanged-requires : goal.is_unchanged-requires
-is_unchanged-requires c =
-    let a = c.args in
-    subst (λ (t : Bytes). KeyAt t a.p.now a.written a.at a.old) (sym c.store_part.ensures)
-    c.requires.place
-
 pub returns-then-is_unchanged : goal.returns-then-is_unchanged
 returns-then-is_unchanged c =
     let h = c.requires in
@@ -91,9 +81,6 @@ pub notify_all-requires : goal.notify_all-requires
 notify_all-requires c =
     let h = c.requires in
     ((stored (goal.at.notify_all-requires c).Joined-written).sound, write-within h.writing h.key, h.writing.short)
-
-pub shape_of-mem : goal.shape_of-mem
-shape_of-mem c = c.notify_all.ensures.size ∙ (stored (goal.at.shape_of-mem c).Joined-written).size
 
 pub returns : goal.returns
 returns c =

@@ -8,4 +8,4 @@ pub returns : goal.returns
 unfolding rows
 returns c =
     let s = c.args.s.now in
-    rw c.put_u32.ensures (becomes-headed s 0 c.requires (omega arith) _ s c.requires refl)
+    rw c.put_number.ensures (becomes-headed s 0 c.requires (omega arith) _ s c.requires refl)

@@ -1,64 +1,29 @@
--- `text::build` goes by the ID.
-use native.Mathlib.Omega.{arith}
-use mathlib.Core.Path.{◌≡◌, refl}
-use mathlib.Core.Bool.{false}
-use Rattle.text.specs.Payload.{payload_for, hello_payload, one_payload, write_payload, no_payload, ping_payload}
-use Rattle.text.specs.PayloadPost.{has_field, has_version, stores}
-use Rattle.text.proofs.LineLaws.{arm-for, arm-none, payload_for-one, payload_for-none, payload_for-other}
-use Rattle.text.proofs.LineLaws.{stores-field, stores-none}
+-- `text::build` goes by the command.
+use mathlib.Core.Logic.{inl, inr}
+use Rattle.text.specs.Payload.{payload_for}
+use Rattle.text.specs.PayloadPost.{stores}
 use Rattle.text.proofs.build.Goals as goal
 
-pub returns-in-0 : goal.returns-in-0
+pub returns-in-Hello : goal.returns-in-Hello
 unfolding payload_for stores
-returns-in-0 c =
-    let A = c.args in
-    let f = c.hello_fields in
-    arm-for A.id A.line.now A.at A.buf.now hello_payload
-    (λ fs. rw c.in-0.is) has_version
-    (λ x. rw c.in-0.is) f.result f.new.buf
-    c.answer.result f.auto.buf f.ensures c.answer.ensures
+returns-in-Hello c = rw c.in-Hello.is c.hello_fields.ensures
 
-pub returns-in-4 : goal.returns-in-4
+pub returns-in-Write : goal.returns-in-Write
 unfolding payload_for stores
-returns-in-4 c =
-    let A = c.args in
-    let f = c.write_fields in
-    arm-for A.id A.line.now A.at A.buf.now write_payload
-    (λ fs. rw c.in-4.is) has_field
-    (λ x. rw c.in-4.is) f.result f.new.buf
-    c.answer-in-4.result f.auto.buf f.ensures c.answer-in-4.ensures
+returns-in-Write c = rw c.in-Write.is c.write_fields.ensures
 
-pub returns-in-7 : goal.returns-in-7
+pub returns-in-Ping : goal.returns-in-Ping
 unfolding payload_for stores
-returns-in-7 c =
-    let A = c.args in
-    let f = c.one_field in
-    arm-for A.id A.line.now A.at A.buf.now ping_payload
-    (λ fs. rw c.in-7.is) has_field
-    (λ x. rw c.in-7.is) f.result f.new.buf
-    c.answer-in-7.result f.auto.buf f.ensures c.answer-in-7.ensures
+returns-in-Ping c = rw c.in-Ping.is c.ping_field.ensures
 
-pub returns-in-1 : goal.returns-in-1
-returns-in-1 c =
-    let A = c.args in
-    let f = c.one_field-in-1 in
-    let some_id : A.id ≡ 0 → ⊥ = omega arith in
-    arm-for A.id A.line.now A.at A.buf.now one_payload
-    (λ fs. payload_for-one A.id fs some_id (omega arith)) has_field
-    (λ x. stores-field A.id x some_id (omega arith) (omega arith)) f.result
-    f.new.buf c.answer-in-1.result f.auto.buf f.ensures c.answer-in-1.ensures
+pub returns-in-Sub : goal.returns-in-Sub
+unfolding payload_for stores
+returns-in-Sub c =
+    let built = c.one_field.ensures in
+    elim c.in-Sub.is [ inl e ↦ rw e built | inr o ↦ elim o [ inl e ↦ rw e built | inr e ↦ rw e built ] ]
 
-pub returns-in-5 : goal.returns-in-5
-returns-in-5 c =
-    let A = c.args in
-    let f = c.no_field in
-    arm-for A.id A.line.now A.at A.buf.now no_payload
-    (λ fs. payload_for-none A.id fs (omega arith) (omega arith) (omega arith)) (λ x. false)
-    (λ x. stores-none A.id x (omega arith) (omega arith) (omega arith)) f.result A.buf.now
-    c.answer-in-5.result refl (f.ensures A.buf.now) c.answer-in-5.ensures
-
-pub returns-in_default : goal.returns-in_default
-returns-in_default c =
-    let A = c.args in
-    arm-none A.id A.line.now A.at A.buf.now
-    (λ fs. payload_for-other A.id fs (omega arith) (omega arith))
+pub returns-in-Begin : goal.returns-in-Begin
+unfolding payload_for stores
+returns-in-Begin c =
+    let built = c.no_field.ensures c.args.buf.now in
+    elim c.in-Begin.is [ inl e ↦ rw e built | inr e ↦ rw e built ]

@@ -4,39 +4,23 @@ use native.Mathlib.Omega.{arith}
 use Prim.Native.Nat.{◌-◌}
 use lib.ListN.{length}
 use lib.Seq.{length-take-le}
-use Rattle.wire.proofs.Laws.{text-nil, text-long, text-short, text-line}
+use Rattle.wire.proofs.Laws.{text-nil, text-long, text-line}
 use Rattle.wire.proofs.read_text.Goals as goal
 
-pub returns-then-m-eq0 : goal.returns-then-m-eq0
-returns-then-m-eq0 c =
-    text-nil c.args.m.now c.args.buf.now
-    c.refused.result c.if-m-eq0.true c.refused.ensures
+pub returns-in_default : goal.returns-in_default
+returns-in_default c =
+    text-nil c.args.m.now c.args.buf.now c.refused.result (omega (arith, c.in_default.len_below)) c.refused.ensures
 
-pub slice_bounds-read_line-end : goal.slice_bounds-read_line-end
-slice_bounds-read_line-end c =
-    let m = c.args.m.now in
-    sym (length-take-le (length m - 1) m (omega arith))
-
-pub read_line-requires : goal.read_line-requires
-read_line-requires c =
-    let m = c.args.m.now in
-    omega (arith, length-take-le (length m - 1) m (omega arith), c.if-n-buf.true)
-
-pub returns-then-n-buf : goal.returns-then-n-buf
-returns-then-n-buf c =
-    text-line c.args.m.now c.args.buf.now _ refl
-    (sym c.ends_line-ended.ensures ∙ c.if-ended.true) c.read_line.result
-    c.read_line.new.buf c.if-n-buf.true
-    c.read_line.ensures
-
-pub returns-then-ended : goal.returns-then-ended
-returns-then-ended c =
-    text-short c.args.m.now
-    c.args.buf.now _ refl
-    (sym c.ends_line-ended.ensures ∙ c.if-ended.true) c.if-n-buf.false
+pub returns-then-not-ends_line : goal.returns-then-not-ends_line
+returns-then-not-ends_line c =
+    text-long c.args.m.now c.args.buf.now c.refused-then-not-ends_line.result
+    (sym c.ends_line.ensures ∙ c.if-not-ends_line.true) c.refused-then-not-ends_line.ensures
 
 pub returns : goal.returns
 returns c =
-    text-long c.args.m.now
-    c.args.buf.now c.refused-2.result
-    (sym c.ends_line-ended.ensures ∙ c.if-ended.false) c.refused-2.ensures
+    let m = c.args.m.now in
+    let long = c.if-buf-line.false in
+    text-line m c.args.buf.now (length m - 1) refl
+    (sym c.ends_line.ensures ∙ c.if-not-ends_line.false) c.read_line.result
+    c.read_line.new.buf (omega (arith, long, length-take-le (length m - 1) m (omega arith)))
+    c.read_line.ensures

@@ -1,33 +1,36 @@
--- `words::id_of`: no row before i names the word.
-use mathlib.Core.Path.{sym, ap, ◌∙◌}
-use mathlib.Core.List.{map}
-use native.Mathlib.Omega.{arith}
-use Rattle.words.specs.Words.{lower}
-use Rattle.words.specs.Table.{named_of}
-use Rattle.words.proofs.Laws.{look_up-here, look_up-on, look_up-none, named-id, id_of-start}
+-- `words::id_of`: no row before this one names the word.
+use Rattle.std.proofs.Common.{map, sym, ap}
+use Rattle.words.specs.Words.{lower, id_of, look_up}
+use Rattle.words.proofs.Laws.{row_of-words, row-found, row-passed, rows-ended}
 use Rattle.words.proofs.id_of.Goals as goal
 
-pub loop-i-init : goal.loop-i-init
-loop-i-init c = (omega arith, id_of-start c.args.w.now)
+pub loop-row-init : goal.loop-row-init
+unfolding id_of
+loop-row-init c = ap (look_up (map lower c.args.w.now)) (sym c.rows-row-items.ensures)
 
-pub returns-then-named : goal.returns-then-named
-returns-then-named c =
-    let w = c.args.w.now in
-    let L = c.loop-i in
-    named-id L.i c.row_at-row.result c.row_at-row.ensures w
-    (L.invariant.1 ∙ look_up-here (map lower w) L.i (omega arith)
-    (sym c.is_named-named.ensures ∙ c.if-named.true))
+pub is_named-requires : goal.is_named-requires
+is_named-requires c =
+    let rows = c.rows-row-items in
+    row_of-words rows.result.now c.loop-row.row-index rows.ensures c.loop-row-test.true
 
-pub loop-i-preserved : goal.loop-i-preserved
-loop-i-preserved c =
+pub returns-then-is_named : goal.returns-then-is_named
+returns-then-is_named c =
     let w = c.args.w.now in
-    let L = c.loop-i in (
-      omega arith,
-      L.invariant.1
-          ∙ look_up-on (map lower w) L.i (omega arith) (sym c.is_named-named.ensures ∙ c.if-named.false),
-    )
+    let L = c.loop-row in
+    let b = c.is_named in
+    row-found (map lower w) c.rows-row-items.result.now L.row-index (id_of w) L.invariant b.result c.loop-row-test.true
+    b.ensures c.if-is_named.true
+
+pub loop-row-preserved : goal.loop-row-preserved
+loop-row-preserved c =
+    let w = c.args.w.now in
+    let L = c.loop-row in
+    let b = c.is_named in
+    row-passed (map lower w) c.rows-row-items.result.now L.row-index (id_of w) L.invariant b.result c.loop-row-test.true
+    b.ensures c.if-is_named.false
 
 pub returns : goal.returns
 returns c =
     let w = c.args.w.now in
-    sym (ap named_of (c.loop-i.invariant.1 ∙ look_up-none (map lower w) c.loop-i.i (omega arith)))
+    let L = c.loop-row in
+    rows-ended (map lower w) c.rows-row-items.result.now L.row-index (id_of w) L.invariant c.loop-row-test.false

@@ -1,12 +1,8 @@
-use mathlib.Core.Path.{◌≡◌}
-use mathlib.Core.List.{map}
-use Prim.Native.Nat.{◌≤◌, ◌-◌}
-use lib.ListN.{drop}
-use Rattle.words.specs.Words.{words, lower, look_up, id_of}
+use Rattle.std.proofs.Common.{◌≡◌, map, drop}
+use Rattle.words.specs.Words.{lower, look_up, id_of}
+use Rattle.words.specs.Table.{entry_of}
 use Rattle.words.proofs.id_of.Given as goal
 
-abbrev pub invariant-loop-i : goal.invariant-loop-i
-invariant-loop-i l = (l.i ≤ 8) × (id_of l.w ≡ look_up (map lower l.w) (drop l.i words))
-
-abbrev pub decreases-loop-i : goal.decreases-loop-i
-decreases-loop-i l = 8 - l.i
+-- the rows before this one do not name the word
+abbrev pub invariant-loop-row : goal.invariant-loop-row
+invariant-loop-row l = id_of l.w ≡ look_up (map lower l.w) (map entry_of (drop l.row-index l.row-items))

@@ -1,41 +1,42 @@
 -- `broker::feeding::feed_message` meets its contract.
 use mathlib.Core.Path.{◌≡◌, sym, ap, subst, ◌∙◌}
 use mathlib.Core.Bool.{true}
+use mathlib.Core.Logic.{◌⊎◌, inl, inr}
 use native.Mathlib.Omega.{arith}
 use lib.ListN.{length}
+use Rattle.octets.specs.Octets.{Bytes}
 use Rattle.protocol.specs.declared.Kind.{Kind}
+use Rattle.protocol.specs.declared.Kind.TheVariants.{Packets, Framed}
 use Rattle.framing.specs.Framing.{kind_of}
 use Rattle.wire.specs.Received.{is_whole}
 use Rattle.wire.specs.Post.{room_in}
+use Rattle.wire.proofs.ReadLaws.{room_in-le}
 use Rattle.broker.proofs.Cuts.{rank, rank-kind_of, kind_of-fixed, kind_of-twice}
 use Rattle.broker.proofs.Fed.{sending-feeding, sending-fixed, obeys-kind}
 use Rattle.broker.proofs.feeding.+feed_message.Goals as goal
 
 -- ---- packets and frames
 
-pub feed_binary-requires : goal.feed_binary-requires
-feed_binary-requires t c =
-    let e = c.in-Packets.is in (
-      sending-feeding c.requires.0 (kind_of-fixed _ _ (ap rank e)),
-      ap (λ (k : Kind). room_in k c.args.m.now) e,
-      c.requires.1,
-    )
+-- a packet or a frame fixes no kind, and asks for no room
+binary-rank : {k : Kind} → (k ≡ Packets) ⊎ (k ≡ Framed) → rank k ≡ 0
+binary-rank (inl e) = ap rank e
+binary-rank (inr e) = ap rank e
+
+binary-room : {k : Kind} (m : Bytes) → (k ≡ Packets) ⊎ (k ≡ Framed) → room_in k m ≡ 0
+binary-room m (inl e) = ap (λ (k : Kind). room_in k m) e
+binary-room m (inr e) = ap (λ (k : Kind). room_in k m) e
+
+pub feed_with-requires : goal.feed_with-requires
+feed_with-requires t c = (
+  sending-feeding c.requires.0 (kind_of-fixed _ _ (binary-rank c.in-Packets.is)),
+  omega (arith, binary-room c.args.m.now c.in-Packets.is),
+  omega arith,
+  c.requires.1,
+)
 
 pub returns-in-Packets : goal.returns-in-Packets
 returns-in-Packets t c =
-    obeys-kind c.args.slot c.args.m.now (kind_of-fixed _ _ (ap rank c.in-Packets.is)) c.feed_binary.ensures
-
-pub feed_binary-requires-in-Framed : goal.feed_binary-requires-in-Framed
-feed_binary-requires-in-Framed t c =
-    let e = c.in-Framed.is in (
-      sending-feeding c.requires.0 (kind_of-fixed _ _ (ap rank e)),
-      ap (λ (k : Kind). room_in k c.args.m.now) e,
-      c.requires.1,
-    )
-
-pub returns-in-Framed : goal.returns-in-Framed
-returns-in-Framed t c =
-    obeys-kind c.args.slot c.args.m.now (kind_of-fixed _ _ (ap rank c.in-Framed.is)) c.feed_binary-in-Framed.ensures
+    obeys-kind c.args.slot c.args.m.now (kind_of-fixed _ _ (binary-rank c.in-Packets.is)) c.feed_with.ensures
 
 -- ---- a stream
 
@@ -57,22 +58,23 @@ returns-in-Stream t c =
 
 -- ---- a text line
 
-pub feed_long_line-requires : goal.feed_long_line-requires
-feed_long_line-requires t c =
-    let e = c.in-Text.is in
-    (sending-feeding c.requires.0 (kind_of-fixed _ _ (ap rank e) ∙ e), c.requires.1)
+pub feed_with-requires-in-Text : goal.feed_with-requires-in-Text
+feed_with-requires-in-Text t c = (
+  sending-feeding c.requires.0 (kind_of-fixed _ _ (ap rank c.in-Text.is)),
+  omega (arith, room_in-le c.args.kind c.args.m.now),
+  omega arith,
+  c.requires.1,
+)
 
-pub returns-then-m-gt4096 : goal.returns-then-m-gt4096
-returns-then-m-gt4096 t c =
-    let e = c.in-Text.is in
-    obeys-kind c.args.slot c.args.m.now (kind_of-fixed _ _ (ap rank e) ∙ e) c.feed_long_line.ensures
+pub returns-in-Text : goal.returns-in-Text
+returns-in-Text t c =
+    obeys-kind c.args.slot c.args.m.now (kind_of-fixed _ _ (ap rank c.in-Text.is)) c.feed_with-in-Text.ensures
 
-pub feed_line-requires : goal.feed_line-requires
-feed_line-requires t c =
-    let e = c.in-Text.is in
-    (sending-feeding c.requires.0 (kind_of-fixed _ _ (ap rank e) ∙ e), omega arith, c.requires.1)
+pub feed_with-requires-in-Text-2 : goal.feed_with-requires-in-Text-2
+feed_with-requires-in-Text-2 t c =
+    let f = sending-feeding c.requires.0 (kind_of-fixed _ _ (ap rank c.in-Text-2.is)) in
+    (f, f.limited, omega arith, c.requires.1)
 
-pub returns-else-m-gt4096 : goal.returns-else-m-gt4096
-returns-else-m-gt4096 t c =
-    let e = c.in-Text.is in
-    obeys-kind c.args.slot c.args.m.now (kind_of-fixed _ _ (ap rank e) ∙ e) c.feed_line.ensures
+pub returns-in-Text-2 : goal.returns-in-Text-2
+returns-in-Text-2 t c =
+    obeys-kind c.args.slot c.args.m.now (kind_of-fixed _ _ (ap rank c.in-Text-2.is)) c.feed_with-in-Text-2.ensures

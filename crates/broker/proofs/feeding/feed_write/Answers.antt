@@ -1,27 +1,20 @@
-use mathlib.Core.Path.{◌≡◌, sym, ◌∙◌}
+use mathlib.Core.Path.{◌≡◌, refl, sym, ◌∙◌}
 use mathlib.Core.List.{[], ◌∷◌}
-use mathlib.Core.Bool.{false}
 use lib.ListN.{length}
 use lib.Seq.{length-take-le}
 use Rattle.recording.specs.Encoding.{action_of}
 use Rattle.recording.proofs.Packed.{action_fine-short}
 use Rattle.memory.specs.Layout.{sizes_of, store_part}
-use Rattle.memory.specs.Image.{client_at, image_of}
+use Rattle.memory.specs.Image.{image_of}
 use Rattle.commit.specs.Promises.{Writing}
 use Rattle.commit.proofs.Parts.{splits-within}
 use Rattle.commit.proofs.Plain.{replacement}
-use Rattle.model.specs.State.{is_on}
 use Rattle.step.specs.TurnParts.{KeyAt, refused_in}
 use Rattle.step.proofs.Turns.{turn-writing}
 use Rattle.broker.proofs.Decided.{obeys-as, obeys-stepped}
-use Rattle.broker.proofs.Recorded.{in-used}
 use Rattle.broker.proofs.Actions.{write-refused_in, action-refused, action-done, action-stepped}
 use Rattle.broker.proofs.feeding.feed_write.Goals as goal
-use Rattle.broker.proofs.feeding.feed_write.Goals.{After-find-place, After-write_refused, Else-in_transaction}
-
-not_on : (c : Else-in_transaction)
-    → is_on (client_at c.args.slot (image_of c.args.mem.now)).transaction ≡ false
-not_on c = sym c.in_transaction.ensures ∙ c.if-in_transaction.false
+use Rattle.broker.proofs.feeding.feed_write.Goals.{After-find-place, After-write_refused}
 
 -- the key's place in the memory's store
 place : (c : After-find-place)
@@ -66,13 +59,6 @@ refused c =
     write-refused_in c.args.mem.now c.args.slot c.requires.0.in-open.in-slot.sound part
     (rw part (sized-2 c)) c.write_refused.ensures
 
-pub in_transaction-requires : goal.in_transaction-requires
-in_transaction-requires c = in-used c.requires.0.in-open
-
-pub feed_record-requires : goal.feed_record-requires
-feed_record-requires c =
-    (c.requires.0, c.requires.1, sym c.in_transaction.ensures ∙ c.if-in_transaction.true)
-
 pub slice_bounds-find-end : goal.slice_bounds-find-end
 slice_bounds-find-end c =
     sym (length-take-le _ c.args.p.now (splits-within c.requires.2))
@@ -80,7 +66,7 @@ slice_bounds-find-end c =
 pub find-place-requires : goal.find-place-requires
 unfolding image_of
 find-place-requires c =
-    rw c.store_part.ensures (c.requires.0.in-open.in-slot.sound.store, c.requires.3)
+    rw c.store_part.ensures (c.requires.0.in-open.in-slot.sound.store, c.requires.4)
 
 pub write_refused-requires : goal.write_refused-requires
 write_refused-requires c =
@@ -90,10 +76,10 @@ write_refused-requires c =
 pub returns-then-write_refused : goal.returns-then-write_refused
 returns-then-write_refused c =
     let A = c.args in
-    obeys-as
-    (action-refused A.mem.now A.slot A.n (action_of 4 A.p.now) (not_on (goal.at.returns-then-write_refused c).Else-in_transaction)
+    λ n. obeys-as
+    (action-refused A.mem.now A.slot n (action_of 4 A.p.now) c.requires.3
     (sym (refused (goal.at.returns-then-write_refused c).After-write_refused) ∙ c.if-write_refused.true))
-    c.shut.ensures
+    (c.shut.ensures n)
 
 pub write_at-requires : goal.write_at-requires
 write_at-requires c =
@@ -117,9 +103,9 @@ unfolding action_of
 returns c =
     let A = c.args in
     let a = action_of 4 A.p.now in
-    let off = not_on (goal.at.returns c).Else-in_transaction in
-    obeys-as
-    (action-done A.mem.now A.slot A.n a off (sym (refused (goal.at.returns c).After-write_refused) ∙ c.if-write_refused.false))
-    (obeys-stepped A.slot A.n c.requires.0.fine (a ∷ []) c.done.ensures.0 c.done.ensures.1
-    (action-stepped A.mem.now A.slot A.n a off c.requires.0 (c.write_at.ensures A.slot)
+    let off = c.requires.3 in
+    λ n. obeys-as
+    (action-done A.mem.now A.slot n a off (sym (refused (goal.at.returns c).After-write_refused) ∙ c.if-write_refused.false))
+    (obeys-stepped A.slot n c.requires.0.fine (a ∷ []) refl refl
+    (action-stepped A.mem.now A.slot n a off c.requires.0 (c.write_at.ensures A.slot)
     c.settle_all.ensures))

@@ -1,8 +1,13 @@
 -- `broker::feeding::is_refused` meets its contract.
 use mathlib.Core.Path.{◌≡◌, sym, ap, subst, ◌∙◌}
 use mathlib.Core.Bool.{true}
-use Prim.Native.Nat.{ℕ}
+use denote.Enum.Bare.{same_true}
+use Rattle.std.proofs.Common.{rules}
+use Rattle.protocol.specs.contracts.command_id.CommandId.{the_type}
+use Rattle.protocol.specs.declared.command_id.CommandId.TheVariants.{Sub}
 use Rattle.octets.specs.Octets.{Bytes}
+use Rattle.protocol.specs.declared.command_id.CommandId.{CommandId}
+use Rattle.protocol.specs.Ids.{id_of}
 use Rattle.subscriptions.specs.Region.{subscriptions_fine}
 use Rattle.recording.specs.Encoding.{action_of}
 use Rattle.memory.specs.Image.{client_at, image_of}
@@ -11,22 +16,19 @@ use Rattle.broker.proofs.Recorded.{in-used, client-rules}
 use Rattle.broker.proofs.Actions.{sub-refused_in, never-refused}
 use Rattle.broker.proofs.feeding.is_refused.Goals as goal
 
-pub subscriptions_part-requires : goal.subscriptions_part-requires
-subscriptions_part-requires c = c.requires.0.in-open.in-slot
-
 pub sub_refused-requires : goal.sub_refused-requires
 sub_refused-requires c =
     subst (λ (t : Bytes). subscriptions_fine t ≡ true) (sym c.subscriptions_part.ensures)
     (client-rules (in-used c.requires.0.in-open)).subscriptions
 
-pub returns-then-id-eq1 : goal.returns-then-id-eq1
+pub returns-then-eq : goal.returns-then-eq
 unfolding action_of
-returns-then-id-eq1 c =
+returns-then-eq c =
     let A = c.args in
-    let e : A.id ≡ 1 = c.if-id-eq1.true in
+    let named : A.id ≡ Sub = same_true the_type (search rules) _ _ (sym c.eq.ensures ∙ c.if-eq.true) in
     sub-refused_in A.mem.now A.slot (in-used c.requires.0.in-open)
     c.subscriptions_part.ensures c.sub_refused.ensures
-    ∙ sym (ap (λ (k : ℕ). refused_in A.mem.now A.slot (action_of k A.p.now)) e)
+    ∙ sym (ap (λ (k : CommandId). refused_in A.mem.now A.slot (action_of (id_of k) A.p.now)) named)
 
 pub returns : goal.returns
 unfolding refused_in
@@ -34,4 +36,4 @@ returns c =
     let A = c.args in
     let im = image_of A.mem.now in
     never-refused A.id A.p.now im.sizes.store_room im.store (client_at A.slot im).patterns
-    c.requires.1 c.if-id-eq1.false
+    c.requires.1 (λ e. let w = rw e at (sym c.eq.ensures ∙ c.if-eq.false) in cc)

@@ -1,4 +1,4 @@
-use mathlib.Core.Path.{◌≡◌, sym, ap₂, ◌∙◌}
+use mathlib.Core.Path.{◌≡◌, refl, sym, ap₂, ◌∙◌}
 use mathlib.Core.Bool.{Bool, true}
 use Rattle.protocol.specs.declared.Kind.{Kind}
 use Rattle.model.specs.Feed.{stays_open}
@@ -19,13 +19,13 @@ stays : (c : After-stays_open) → c.stays_open.result ≡ (let d = client_at c.
 stays c =
     c.stays_open.ensures
     ∙ ap₂ (λ (k : Kind) (h : Bool). stays_open k h c.args.refusal) c.kind-kind.ensures
-    c.hangs_up-hangs.ensures
+    c.hangs_up-hangs_up.ensures
 
 stays-2 : (c : Else-not-stays_open) → c.stays_open.result ≡ (let d = client_at c.args.slot (image_of c.args.mem.now) in stays_open d.kind d.hangs_up c.args.refusal)
 stays-2 c =
     c.stays_open.ensures
     ∙ ap₂ (λ (k : Kind) (h : Bool). stays_open k h c.args.refusal) c.kind-kind.ensures
-    c.hangs_up-hangs.ensures
+    c.hangs_up-hangs_up.ensures
 
 stays-true : (c : Else-not-stays_open) → (let d = client_at c.args.slot (image_of c.args.mem.now) in stays_open d.kind d.hangs_up c.args.refusal) ≡ true
 stays-true c = sym (stays-2 c) ∙ c.if-not-stays_open.false
@@ -33,15 +33,15 @@ stays-true c = sym (stays-2 c) ∙ c.if-not-stays_open.false
 pub kind-kind-requires : goal.kind-kind-requires
 kind-kind-requires c = in-used c.requires.in-open
 
-pub hangs_up-hangs-requires : goal.hangs_up-hangs-requires
-hangs_up-hangs-requires c = in-used c.requires.in-open
+pub hangs_up-hangs_up-requires : goal.hangs_up-hangs_up-requires
+hangs_up-hangs_up-requires c = in-used c.requires.in-open
 
 pub returns-then-not-stays_open : goal.returns-then-not-stays_open
 returns-then-not-stays_open c =
-    obeys-as
-    (refusal-shuts c.requires c.args.n c.args.refusal
+    λ n. obeys-as
+    (refusal-shuts c.requires n c.args.refusal
     (sym (stays (goal.at.returns-then-not-stays_open c).After-stays_open) ∙ c.if-not-stays_open.true))
-    c.shut.ensures
+    (c.shut.ensures n)
 
 pub error_fits-requires : goal.error_fits-requires
 error_fits-requires c = speaking-resting c.requires
@@ -49,10 +49,10 @@ error_fits-requires c = speaking-resting c.requires
 pub returns-then-not-error_fits : goal.returns-then-not-error_fits
 returns-then-not-error_fits c =
     let f = c.error_fits in
-    obeys-as
-    (refusal-full c.requires c.args.n c.args.refusal (stays-true (goal.at.returns-then-not-error_fits c).Else-not-stays_open)
+    λ n. obeys-as
+    (refusal-full c.requires n c.args.refusal (stays-true (goal.at.returns-then-not-error_fits c).Else-not-stays_open)
     (sym f.ensures ∙ c.if-not-error_fits.true))
-    c.shut-then-not-error_fits.ensures
+    (c.shut-then-not-error_fits.ensures n)
 
 pub slip-requires : goal.slip-requires
 slip-requires c =
@@ -66,8 +66,7 @@ pub returns : goal.returns
 returns c =
     let A = c.args in
     let f = c.error_fits in
-    obeys-as
-    (refusal-stays c.requires A.n A.refusal (stays-true (goal.at.returns c).Else-not-stays_open)
+    λ n. obeys-as
+    (refusal-stays c.requires n A.refusal (stays-true (goal.at.returns c).Else-not-stays_open)
     (sym f.ensures ∙ c.if-not-error_fits.false))
-    (obeys-slip A.slot A.n c.requires.fine A.refusal c.refused.ensures.0 c.refused.ensures.1
-    c.slip.ensures)
+    (obeys-slip A.slot n c.requires.fine A.refusal refl refl c.slip.ensures)

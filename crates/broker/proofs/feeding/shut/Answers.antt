@@ -1,7 +1,6 @@
+use mathlib.Core.Path.{refl}
 use Rattle.broker.proofs.Decided.{obeys-shut}
 use Rattle.broker.proofs.feeding.shut.Goals as goal
 
 pub returns : goal.returns
-returns c =
-    obeys-shut c.args.slot c.args.n c.requires.fine c.args.refusal c.refused.ensures.0
-    c.refused.ensures.1 c.refuse.ensures
+returns c = λ n. obeys-shut c.args.slot n c.requires.fine c.args.refusal refl refl c.refuse.ensures

@@ -10,16 +10,14 @@ use Rattle.recording.specs.Region.{rows_of, recorded}
 use Rattle.store.specs.Index.{Indexes}
 use Rattle.memory.specs.Image.{image_of}
 use Rattle.broker.specs.CommitParts.{recorded_in, Committing, recording_from, RowTurned}
-use Rattle.broker.proofs.Recorded.{in-used, recording-fine}
+use Rattle.broker.proofs.Recorded.{in-used, recording-fine, payload-short}
 use Rattle.broker.proofs.Running.{committing-count, committing-end, committing-row, committing-within}
 use Rattle.broker.proofs.Running.{committing-turn, committing-short, committing-next, committing-fewer}
 use Rattle.broker.proofs.Running.{committing-then}
 use Rattle.broker.proofs.transaction.+run_recorded.Goals as goal
+use Rattle.broker.proofs.transaction.+run_recorded.Goals.{then-size-le4100, else-size-le4100}
 
 -- ---- the actions left
-
-pub recording_part-recording-requires : goal.recording_part-recording-requires
-recording_part-recording-requires t c = c.requires.0.in-open.in-slot
 
 pub count-requires : goal.count-requires
 count-requires t c = rw c.recording_part-recording.ensures (recording-fine (in-used c.requires.0.in-open))
@@ -55,49 +53,51 @@ row_size-size-requires t c =
     (committing-row c.requires.0
     (more c.requires.0 c.recording_part-recording.ensures c.count.ensures c.if-count-i.false))
 
-pub overflow_add-next : goal.overflow_add-next
-overflow_add-next t c =
-    let h = c.requires.0 in
-    let l = more h c.recording_part-recording.ensures c.count.ensures c.if-count-i.false in
-    let n = size _ _ _ c.recording_part-recording.ensures c.row_size-size.ensures in
-    record { fits = omega (arith, committing-within h l n) }
-
--- ---- a long row
-
-pub run_long_row-requires : goal.run_long_row-requires
-run_long_row-requires t c =
-    let h = c.requires.0 in
-    (committing-turn h (more h c.recording_part-recording.ensures c.count.ensures c.if-count-i.false), c.requires.1)
-
-pub run_recorded-requires : goal.run_recorded-requires
-run_recorded-requires t c =
-    let h = c.requires.0 in
-    others c.decreases h (more h c.recording_part-recording.ensures c.count.ensures c.if-count-i.false)
-    (size _ _ _ c.recording_part-recording.ensures c.row_size-size.ensures) c.run_long_row.ensures
-
-pub returns-then-size-gt4100 : goal.returns-then-size-gt4100
-returns-then-size-gt4100 t c =
-    let h = c.requires.0 in
-    committing-then h (more h c.recording_part-recording.ensures c.count.ensures c.if-count-i.false)
-    c.run_long_row.ensures.0 c.run_recorded.ensures
-
--- ---- a row of at most 4,100 bytes
-
+-- a row of at most 4,100 bytes
 pub run_row-requires : goal.run_row-requires
 run_row-requires t c =
     let h = c.requires.0 in
     let l = more h c.recording_part-recording.ensures c.count.ensures c.if-count-i.false in
     let n = size _ _ _ c.recording_part-recording.ensures c.row_size-size.ensures in
-    (committing-turn h l, committing-short h l n c.if-size-gt4100.false, c.requires.1)
+    (committing-turn h l, committing-short h l n c.if-size-le4100.true, omega arith, c.requires.1)
 
-pub run_recorded-requires-2 : goal.run_recorded-requires-2
-run_recorded-requires-2 t c =
+-- a row of any length
+pub run_row-requires-else-size-le4100 : goal.run_row-requires-else-size-le4100
+run_row-requires-else-size-le4100 t c =
     let h = c.requires.0 in
+    let r =
+    committing-turn h (more h c.recording_part-recording.ensures c.count.ensures c.if-count-i.false) in
+    let s : Bytes = drop c.args.at (rows_of (recording_from c.args.mem.now c.args.slot)) in
+    (r, payload-short s r.row.here, omega arith, c.requires.1)
+
+pub overflow_add-at : goal.overflow_add-at
+overflow_add-at t c =
+    let h = c.requires.0 in
+    let l = more h c.recording_part-recording.ensures c.count.ensures c.if-count-i.false in
+    let n = size _ _ _ c.recording_part-recording.ensures c.row_size-size.ensures in
+    record { fits = omega (arith, committing-within h l n) }
+
+-- ---- the others
+
+pub run_recorded-requires : goal.run_recorded-requires
+run_recorded-requires t c =
+    let h = c.requires.0 in
+    let b : RowTurned c.args.mem.now c.args.slot c.args.at c.if-size-le4100.mem
+    × Indexes (image_of c.if-size-le4100.mem).store c.if-size-le4100.index =
+    elim c.if-size-le4100.branch [
+      | then-size-le4100 w ↦ rw (w.mem-is, w.index-is) w.run_row.ensures
+      | else-size-le4100 w ↦ rw (w.mem-is, w.index-is) w.run_row-else-size-le4100.ensures
+    ] in
     others c.decreases h (more h c.recording_part-recording.ensures c.count.ensures c.if-count-i.false)
-    (size _ _ _ c.recording_part-recording.ensures c.row_size-size.ensures) c.run_row.ensures
+    (size _ _ _ c.recording_part-recording.ensures c.row_size-size.ensures) b
 
 pub returns : goal.returns
 returns t c =
     let h = c.requires.0 in
+    let b : RowTurned c.args.mem.now c.args.slot c.args.at c.if-size-le4100.mem =
+    elim c.if-size-le4100.branch [
+      | then-size-le4100 w ↦ rw w.mem-is w.run_row.ensures.0
+      | else-size-le4100 w ↦ rw w.mem-is w.run_row-else-size-le4100.ensures.0
+    ] in
     committing-then h (more h c.recording_part-recording.ensures c.count.ensures c.if-count-i.false)
-    c.run_row.ensures.0 c.run_recorded-2.ensures
+    b c.run_recorded.ensures

@@ -1,6 +1,6 @@
 -- ---- a spoiled transaction ends, and then the COMMIT is refused
 -- ---- what is recorded is refused, or runs
-use mathlib.Core.Path.{◌≡◌, sym, ◌∙◌}
+use mathlib.Core.Path.{◌≡◌, refl, sym, ◌∙◌}
 use mathlib.Core.Bool.{true, false}
 use mathlib.Core.List.{List}
 use Rattle.protocol.specs.Terms.{Action}
@@ -48,8 +48,8 @@ returns-then-not-in_transaction c =
     let A = c.args in
     let t = c.in_transaction in
     let e = sym t.ensures ∙ c.if-not-in_transaction.true in
-    obeys-as (commit-off A.mem.now A.slot A.n e)
-    (obeys-nothing A.slot A.n off c.requires.0.fine c.done.ensures.0 c.done.ensures.1
+    λ n. obeys-as (commit-off A.mem.now A.slot n e)
+    (obeys-nothing A.slot n off c.requires.0.fine refl refl
     (is-off (transaction (goal.at.returns-then-not-in_transaction c).Start) e))
 
 pub is_spoiled-requires : goal.is_spoiled-requires
@@ -65,9 +65,9 @@ refuse-requires c =
 pub returns-then-is_spoiled : goal.returns-then-is_spoiled
 returns-then-is_spoiled c =
     let A = c.args in
-    obeys-as
-    (commit-spoiled A.mem.now A.slot A.n (sym c.is_spoiled.ensures ∙ c.if-is_spoiled.true))
-    (obeys-ended c.requires.0 c.end_recording.ensures A.n State c.refuse.ensures)
+    λ n. obeys-as
+    (commit-spoiled A.mem.now A.slot n (sym c.is_spoiled.ensures ∙ c.if-is_spoiled.true))
+    (obeys-ended c.requires.0 c.end_recording.ensures n State (c.refuse.ensures n))
 
 pub commit_refused-requires : goal.commit_refused-requires
 commit_refused-requires c =
@@ -76,10 +76,10 @@ commit_refused-requires c =
 pub returns-then-commit_refused : goal.returns-then-commit_refused
 returns-then-commit_refused c =
     let A = c.args in
-    obeys-as
-    (commit-refused A.mem.now A.slot A.n (on (goal.at.returns-then-commit_refused c).Else-not-in_transaction) (not-spoiled (goal.at.returns-then-commit_refused c).Else-is_spoiled)
+    λ n. obeys-as
+    (commit-refused A.mem.now A.slot n (on (goal.at.returns-then-commit_refused c).Else-not-in_transaction) (not-spoiled (goal.at.returns-then-commit_refused c).Else-is_spoiled)
     (sym c.commit_refused.ensures ∙ c.if-commit_refused.true))
-    c.shut.ensures
+    (c.shut.ensures n)
 
 pub run_recorded-requires : goal.run_recorded-requires
 run_recorded-requires c =
@@ -92,8 +92,8 @@ end_recording-requires-2 c =
 pub returns : goal.returns
 returns c =
     let A = c.args in
-    obeys-as
-    (commit-done A.mem.now A.slot A.n (on (goal.at.returns c).Else-not-in_transaction) (not-spoiled (goal.at.returns c).Else-is_spoiled) (allowed (goal.at.returns c).Else-commit_refused))
-    (obeys-stepped A.slot A.n c.requires.0.fine (actions (goal.at.returns c).Start) c.done-2.ensures.0 c.done-2.ensures.1
+    λ n. obeys-as
+    (commit-done A.mem.now A.slot n (on (goal.at.returns c).Else-not-in_transaction) (not-spoiled (goal.at.returns c).Else-is_spoiled) (allowed (goal.at.returns c).Else-commit_refused))
+    (obeys-stepped A.slot n c.requires.0.fine (actions (goal.at.returns c).Start) refl refl
     (step-parts A.slot (actions (goal.at.returns c).Start) c.run_recorded.ensures c.end_recording-2.ensures
     c.settle_all.ensures))

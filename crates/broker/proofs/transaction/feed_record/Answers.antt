@@ -1,10 +1,11 @@
-use mathlib.Core.Path.{◌≡◌, sym, ap, ◌∙◌}
+use mathlib.Core.Path.{◌≡◌, refl, sym, ap, ◌∙◌}
 use mathlib.Core.Bool.{false}
 use mathlib.Core.List.{[], ◌∷◌, ◌++◌}
 use lib.ListN.{length}
 use Rattle.protocol.specs.Terms.{Action}
 use Rattle.model.specs.State.{spoiled, is_spoiled, recording_fits}
 use Rattle.model.proofs.Transactions.{is-spoiled}
+use Rattle.protocol.specs.Ids.{id_of}
 use Rattle.recording.specs.Encoding.{action_of}
 use Rattle.recording.proofs.Encodings.{payload-action_of}
 use Rattle.memory.specs.Image.{client_at, image_of}
@@ -16,7 +17,7 @@ use Rattle.broker.proofs.transaction.feed_record.Goals as goal
 use Rattle.broker.proofs.transaction.feed_record.Goals.{After-record_fits, Else-is_spoiled, Start}
 
 abbrev action : Start → Action
-action k = action_of k.args.id k.args.p.now
+action k = action_of (id_of k.args.id) k.args.p.now
 
 not-spoiled : (c : Else-is_spoiled) → (
     let A = c.args in
@@ -27,9 +28,9 @@ not-spoiled c = sym c.is_spoiled.ensures ∙ c.if-is_spoiled.false
 fits : (c : After-record_fits) → (
     let m = c.args.mem.now in
     c.record_fits.result
-    ≡ recording_fits (image_of m).sizes.record_room (recorded_in m c.args.slot ++ ((action_of c.args.id c.args.p.now) ∷ [])))
+    ≡ recording_fits (image_of m).sizes.record_room (recorded_in m c.args.slot ++ ((action_of (id_of c.args.id) c.args.p.now) ∷ [])))
 fits c =
-    c.record_fits.ensures.value ((action_of c.args.id c.args.p.now)) (ap length (payload-action_of c.args.id c.args.p.now))
+    c.record_fits.ensures.value ((action_of (id_of c.args.id) c.args.p.now)) (ap length (payload-action_of (id_of c.args.id) c.args.p.now))
 
 pub is_spoiled-requires : goal.is_spoiled-requires
 is_spoiled-requires c = in-used c.requires.0.in-open
@@ -38,8 +39,8 @@ pub returns-then-is_spoiled : goal.returns-then-is_spoiled
 returns-then-is_spoiled c =
     let A = c.args in
     let e = sym c.is_spoiled.ensures ∙ c.if-is_spoiled.true in
-    obeys-as (record-spoiled A.mem.now A.slot A.n (action (goal.at.returns-then-is_spoiled c).Start) e)
-    (obeys-nothing A.slot A.n spoiled c.requires.0.fine c.done.ensures.0 c.done.ensures.1
+    λ n. obeys-as (record-spoiled A.mem.now A.slot n (action (goal.at.returns-then-is_spoiled c).Start) e)
+    (obeys-nothing A.slot n spoiled c.requires.0.fine refl refl
     (is-spoiled (client_at A.slot (image_of A.mem.now)).transaction e))
 
 pub record_fits-requires : goal.record_fits-requires
@@ -48,10 +49,10 @@ record_fits-requires c = in-used c.requires.0.in-open
 pub returns-then-not-record_fits : goal.returns-then-not-record_fits
 returns-then-not-record_fits c =
     let A = c.args in
-    obeys-as
-    (record-refused A.mem.now A.slot A.n (action (goal.at.returns-then-not-record_fits c).Start) c.requires.2 (not-spoiled (goal.at.returns-then-not-record_fits c).Else-is_spoiled)
+    λ n. obeys-as
+    (record-refused A.mem.now A.slot n (action (goal.at.returns-then-not-record_fits c).Start) c.requires.2 (not-spoiled (goal.at.returns-then-not-record_fits c).Else-is_spoiled)
     (sym (fits (goal.at.returns-then-not-record_fits c).After-record_fits) ∙ c.if-not-record_fits.true))
-    c.shut.ensures
+    (c.shut.ensures n)
 
 pub record-requires : goal.record-requires
 record-requires c =
@@ -64,8 +65,8 @@ record-requires c =
 pub returns : goal.returns
 returns c =
     let A = c.args in
-    obeys-as
-    (record-done A.mem.now A.slot A.n (action (goal.at.returns c).Start) c.requires.2 (not-spoiled (goal.at.returns c).Else-is_spoiled)
+    λ n. obeys-as
+    (record-done A.mem.now A.slot n (action (goal.at.returns c).Start) c.requires.2 (not-spoiled (goal.at.returns c).Else-is_spoiled)
     (sym (fits (goal.at.returns c).After-record_fits) ∙ c.if-not-record_fits.false))
-    (obeys-recorded A.slot A.n c.requires.0.fine (action (goal.at.returns c).Start) c.done-2.ensures.0 c.done-2.ensures.1
+    (obeys-recorded A.slot n c.requires.0.fine (action (goal.at.returns c).Start) refl refl
     c.«record».ensures)

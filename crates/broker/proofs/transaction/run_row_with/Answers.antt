@@ -3,6 +3,7 @@ use mathlib.Core.Path.{◌≡◌, sym, ap, ◌∙◌}
 use lib.ListN.{length, drop}
 use Rattle.octets.specs.Octets.{Bytes}
 use Rattle.protocol.specs.Terms.{Action, action_id}
+use Rattle.protocol.specs.Ids.{id_of}
 use Rattle.recording.specs.Encoding.{action_at}
 use Rattle.recording.specs.Region.{rows_of}
 use Rattle.memory.specs.Image.{image_of}
@@ -21,7 +22,7 @@ action c =
     row_action A.mem.now A.slot A.at
 
 -- its ID
-named : (c : After-id_at-id) → c.id_at-id.result ≡ action_id (action c)
+named : (c : After-id_at-id) → id_of c.id_at-id.result ≡ action_id (action c)
 named c =
     let at = c.args.at in
     c.id_at-id.ensures

@@ -1,7 +1,5 @@
-use mathlib.Core.Path.{sym, ap}
-use Prim.Native.Nat.{ℕ}
+use mathlib.Core.Path.{sym}
 use native.Mathlib.Omega.{arith}
-use lib.ListN.{take}
 use lib.Seq.{length-take-le}
 use Rattle.protocol.specs.declared.Kind.TheVariants.{Text}
 use Rattle.client.specs.Reading.{length_in}
@@ -13,9 +11,4 @@ unfolding length_in
 slice_bounds-result-end c =
     let s = c.args.s.now in
     let h = length_in-le Text s in
-    sym (length-take-le c.lf_length-n.result s (omega arith))
-
-pub returns : goal.returns
-unfolding length_in
-returns c =
-    ap (λ (n : ℕ). take n c.args.s.now) c.lf_length-n.ensures
+    sym (length-take-le c.lf_length.result s (omega arith))

@@ -4,6 +4,3 @@ use Rattle.memory.proofs.check.is_fine.Goals as goal
 
 pub is_fine_indexing-requires : goal.is_fine_indexing-requires
 is_fine_indexing-requires c = zeros-indexed 1
-
-pub returns : goal.returns
-returns c = c.is_fine_indexing.ensures.0

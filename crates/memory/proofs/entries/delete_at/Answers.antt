@@ -2,15 +2,9 @@
 use mathlib.Core.Path.{subst, sym}
 use Rattle.octets.specs.Octets.{Bytes}
 use Rattle.model.specs.Store.{remove}
-use Rattle.store.specs.Operation.{Found, PresentAt}
+use Rattle.store.specs.Operation.{Found}
 use Rattle.memory.proofs.Stored.{store_bytes, store-changes}
 use Rattle.memory.proofs.entries.delete_at.Goals as goal
-
-pub delete_at-requires : goal.delete_at-requires
-delete_at-requires c =
-    subst (λ (t : Bytes). PresentAt t c.args.at c.args.old)
-    (sym (store_bytes c.args.mem.now c.store_end-end.result c.store_end-end.ensures))
-    c.requires.1
 
 pub returns : goal.returns
 returns c key d =

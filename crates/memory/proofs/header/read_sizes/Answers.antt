@@ -6,8 +6,8 @@ pub returns : goal.returns
 unfolding sizes_of
 returns c =
     rw (
-      c.u32_at-slots.ensures.value,
-      c.u32_at-store.ensures.value,
-      c.u32_at-queue.ensures.value,
-      c.u32_at-recording.ensures.value,
+      c.number_at.ensures.value,
+      c.number_at-2.ensures.value,
+      c.number_at-3.ensures.value,
+      c.number_at-4.ensures.value,
     )

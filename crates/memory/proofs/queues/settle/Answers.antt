@@ -1,22 +1,21 @@
--- `memory::queues::settle` meets its contract.
-use borrow.Author.Rules.{rules}
 use Rattle.slot.specs.Image.{settled}
-use Rattle.memory.proofs.Lent.{lent-as, lent-order, lent-within, lent-some, lent-rules}
+use Rattle.memory.specs.Promises.{Placed}
+use Rattle.memory.proofs.Lent.{placed, numbered, lent_placed, lent-some, lent-rules}
 use Rattle.memory.proofs.Returned.{lent-changes-any}
 use Rattle.memory.proofs.queues.settle.Goals as goal
+use Rattle.memory.proofs.queues.settle.Goals.{After-sized_extent-s}
 
-pub slice_bounds-settle-count : goal.slice_bounds-settle-count
-slice_bounds-settle-count c = let h = lent-order c.requires.lent in search rules
-
-pub slice_bounds-settle-start : goal.slice_bounds-settle-start
-slice_bounds-settle-start c = let h = lent-order c.requires.lent in search rules
-
-pub slice_bounds-settle-end : goal.slice_bounds-settle-end
-slice_bounds-settle-end c = let h = lent-within c.requires.lent in search rules
+lies : (c : After-sized_extent-s)
+    → Placed c.args.mem.now c.args.i c.sized_extent-s.result.start c.sized_extent-s.result.end c.sized_extent-s.result.room
+lies c = placed (numbered c.requires.0 c.requires.1) c.sized_extent-s.ensures
 
 pub settle-requires : goal.settle-requires
-settle-requires c = (lent-some c.requires.lent, lent-rules c.requires.lent)
+settle-requires c =
+    let l = lent_placed c.requires.0 (lies (goal.at.settle-requires c).After-sized_extent-s) in
+    (lent-some l, lent-rules l)
 
 pub returns : goal.returns
-returns c i l e =
-    lent-changes-any (lent-as c.requires.lent l e) settled c.settle.ensures
+returns c =
+    let h = c.requires.0 in
+    let p = lies (goal.at.returns c).After-sized_extent-s in
+    lent-changes-any h p settled c.settle.ensures

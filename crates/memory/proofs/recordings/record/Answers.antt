@@ -1,22 +1,19 @@
--- `memory::recordings::record` meets its contract.
+use Rattle.protocol.specs.Ids.{id_of}
 use Rattle.recording.specs.Encoding.{action_of}
 use Rattle.slot.specs.Image.{recorded}
-use Rattle.memory.proofs.Lent.{open-used, lent-within}
+use Rattle.memory.proofs.Lent.{open-used}
 use Rattle.memory.proofs.Returned.{lent-recordable, lent-changes}
 use Rattle.memory.proofs.recordings.record.Goals as goal
 
-pub slot_extent-s-requires : goal.slot_extent-s-requires
-slot_extent-s-requires c = c.requires.in-open.in-slot
-
 pub record-requires : goal.record-requires
 record-requires c =
-    lent-recordable c.slot_extent-s.ensures c.requires
+    let h = c.requires.in-open.in-slot in
+    let p = c.slot_extent-s.ensures in
+    lent-recordable h p c.requires
 
 pub returns : goal.returns
 returns c =
-    let h = c.slot_extent-s.ensures in
-    lent-changes h (recorded (action_of c.args.id c.args.payload.now))
+    let h = c.requires.in-open.in-slot in
+    let p = c.slot_extent-s.ensures in
+    lent-changes h p (recorded (action_of (id_of c.args.id) c.args.payload.now))
     (open-used _ c.requires.in-open.has-open) c.«record».ensures
-
-pub slice_bounds-record-end : goal.slice_bounds-record-end
-slice_bounds-record-end c = lent-within c.slot_extent-s.ensures

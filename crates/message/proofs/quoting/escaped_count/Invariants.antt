@@ -1,11 +1,13 @@
+-- n bytes are escaped in the blocks before.
 use mathlib.Core.Path.{◌≡◌}
-use Prim.Native.Nat.{◌+◌, ◌-◌, ◌≤◌}
-use lib.ListN.{length, drop}
+use Prim.Native.Nat.{◌+◌, ◌≤◌}
+use lib.ListN.{length}
+use Rattle.std.specs.Slice.Iter.{chunks_rest, chunks_size}
 use Rattle.message.specs.Quoting.{escaped}
 use Rattle.message.proofs.quoting.escaped_count.Given as goal
 
-abbrev pub invariant-loop-i : goal.invariant-loop-i
-invariant-loop-i l = (l.i ≤ length l.s) × (l.n + escaped (drop l.i l.s) ≡ escaped l.s) × (l.n ≤ l.i)
-
-abbrev pub decreases-loop-i : goal.decreases-loop-i
-decreases-loop-i l = length l.s - l.i
+abbrev pub invariant-loop-block : goal.invariant-loop-block
+invariant-loop-block l =
+    (l.n + escaped (chunks_rest l.block-iterator) ≡ escaped l.s)
+    × (l.n + length (chunks_rest l.block-iterator) ≤ length l.s)
+    × (chunks_size l.block-iterator ≡ 128)

@@ -1,33 +1,29 @@
-use native.Mathlib.Omega.{arith}
-use mathlib.Core.Path.{sym, ◌∙◌}
-use borrow.Author.Tests.{eq-eqb, ne_eqb}
-use Rattle.octets.proofs.Nul.{first_nul-within, nul-in-block, no-block-left, block-clear}
+use Rattle.std.proofs.Common.{◌≡◌, ◌∙◌, ◌*◌, ◌+◌, ◌-◌, ◌/◌, length, sym, arith}
+use Rattle.octets.proofs.Nul.{nul-in-block, no-block-left, block-clear}
 use Rattle.octets.proofs.block.clear_blocks.Goals as goal
 
-pub loop-i-init : goal.loop-i-init
-loop-i-init c = (omega arith, omega arith)
-
-pub overflow_sub-s : goal.overflow_sub-s
-overflow_sub-s c = omega (arith, first_nul-within c.args.s.now)
-
-pub least_of_block-requires : goal.least_of_block-requires
-least_of_block-requires c = omega (arith, first_nul-within c.args.s.now)
-
-pub returns-then-least_of_block-eq0 : goal.returns-then-least_of_block-eq0
-returns-then-least_of_block-eq0 c =
-    let L = c.loop-i in
+pub returns-then-holds_nul : goal.returns-then-holds_nul
+returns-then-holds_nul c =
+    let L = c.loop-k in
     let s = c.args.s.now in
-    nul-in-block s L.i L.invariant.0 L.invariant.1 (omega (arith, first_nul-within s))
-    (sym c.least_of_block.ensures ∙ eq-eqb c.least_of_block.result 0 c.if-least_of_block-eq0.true)
+    let n : 16 * L.k + 16 - 16 * L.k ≡ 16 = omega arith in
+    nul-in-block s (16 * L.k) L.invariant (omega arith) (omega arith)
+    (rw n at (sym c.holds_nul.ensures ∙ c.if-holds_nul.true))
 
-pub loop-i-preserved : goal.loop-i-preserved
-loop-i-preserved c =
-    let L = c.loop-i in
+pub loop-k-preserved : goal.loop-k-preserved
+loop-k-preserved c =
+    let L = c.loop-k in
     let s = c.args.s.now in
-    let e = sym c.least_of_block.ensures ∙ ne_eqb c.least_of_block.result 0 c.if-least_of_block-eq0.false in
-    (block-clear s L.i L.invariant.0 L.invariant.1 (omega (arith, first_nul-within s)) e, omega (arith, L.invariant.1))
+    let n : 16 * L.k + 16 - 16 * L.k ≡ 16 = omega arith in
+    omega (
+      arith,
+      block-clear s (16 * L.k) L.invariant (omega arith) (omega arith)
+          (rw n at (sym c.holds_nul.ensures ∙ c.if-holds_nul.false)),
+    )
 
 pub returns : goal.returns
 returns c =
-    let L = c.loop-i in
-    no-block-left c.args.s.now L.i L.invariant.0 L.invariant.1 (omega arith)
+    let L = c.loop-k in
+    let s = c.args.s.now in
+    let e : length s / 16 * 16 ≡ 16 * L.k = omega arith in
+    e ∙ no-block-left s (16 * L.k) L.invariant (omega arith) (omega arith)

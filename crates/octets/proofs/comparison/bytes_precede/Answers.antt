@@ -1,23 +1,21 @@
-use mathlib.Core.Path.{◌≡◌, sym}
-use Rattle.octets.specs.Order.{order}
-use Rattle.octets.specs.declared.comparison.Order.TheVariants.{Less, Equal, Greater}
-use Rattle.octets.proofs.Orders.{before-order}
+use Rattle.std.proofs.Common.{sym, arith}
+use Rattle.octets.proofs.Words.{take-byte-same, before-byte-other, before-length}
 use Rattle.octets.proofs.comparison.bytes_precede.Goals as goal
 
-pub returns-in-Less : goal.returns-in-Less
-returns-in-Less c =
+pub returns-then-a-i : goal.returns-then-a-i
+returns-then-a-i c =
     let A = c.args in
-    let e : Less ≡ order A.a.now A.b.now = cc in
-    sym (before-order A.a.now A.b.now Less e)
+    let L = c.loop-i in
+    sym (before-byte-other A.a.now A.b.now L.i (omega arith) (omega arith) L.invariant c.if-a-i.true)
 
-pub returns-in-Equal : goal.returns-in-Equal
-returns-in-Equal c =
+pub loop-i-preserved : goal.loop-i-preserved
+loop-i-preserved c =
     let A = c.args in
-    let e : Equal ≡ order A.a.now A.b.now = cc in
-    sym (before-order A.a.now A.b.now Equal e)
+    let L = c.loop-i in
+    take-byte-same A.a.now A.b.now L.i (omega arith) (omega arith) L.invariant c.if-a-i.false
 
-pub returns-in-Greater : goal.returns-in-Greater
-returns-in-Greater c =
+pub returns : goal.returns
+returns c =
     let A = c.args in
-    let e : Greater ≡ order A.a.now A.b.now = cc in
-    sym (before-order A.a.now A.b.now Greater e)
+    let L = c.loop-i in
+    sym (before-length A.a.now A.b.now L.i (omega arith) L.invariant)

@@ -1,12 +1,6 @@
-use mathlib.Core.Path.{◌≡◌}
-use Prim.Native.Nat.{◌-◌}
-use lib.ListN.{take}
-use Rattle.octets.specs.Octets.{Bounded}
+use Rattle.std.proofs.Common.{◌≡◌, ◌*◌, take}
 use Rattle.octets.proofs.comparison.precedes.Given as goal
 
--- the bytes before i are equal
-abbrev pub invariant-loop-i : goal.invariant-loop-i
-invariant-loop-i l = (take l.i l.a ≡ take l.i l.b) × Bounded l.a × Bounded l.b
-
-abbrev pub decreases-loop-i : goal.decreases-loop-i
-decreases-loop-i l = l.last - l.i
+-- the words before the one at 8 * k are equal
+abbrev pub invariant-loop-k : goal.invariant-loop-k
+invariant-loop-k l = take (8 * l.k) l.a ≡ take (8 * l.k) l.b

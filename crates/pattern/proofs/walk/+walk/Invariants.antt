@@ -12,11 +12,11 @@ decreases-walk_branches l = (length l.pattern.now - l.at) + (length l.pattern.no
 abbrev pub decreases-walk_sequence : goal.decreases-walk_sequence
 decreases-walk_sequence l = (length l.pattern.now - l.at) + (length l.pattern.now - l.at)
 
-abbrev pub invariant-walk_branches-loop-past : goal.invariant-walk_branches-loop-past
-invariant-walk_branches-loop-past l = Trying (tree_at l.pattern) (length l.pattern) l.key l.at l.from l.i l.steps
+abbrev pub invariant-walk_branches-loop-w : goal.invariant-walk_branches-loop-w
+invariant-walk_branches-loop-w l = Trying (tree_at l.pattern) (length l.pattern) l.key l.at l.from l.i l.steps
 
-abbrev pub decreases-walk_branches-loop-past : goal.decreases-walk_branches-loop-past
-decreases-walk_branches-loop-past l = length l.pattern - l.i
+abbrev pub decreases-walk_branches-loop-w : goal.decreases-walk_branches-loop-w
+decreases-walk_branches-loop-w l = length l.pattern - l.i
 
 abbrev pub invariant-walk_sequence-loop-i : goal.invariant-walk_sequence-loop-i
 invariant-walk_sequence-loop-i l = Along (tree_at l.pattern) (length l.pattern) l.key l.at l.from l.i l.k l.steps

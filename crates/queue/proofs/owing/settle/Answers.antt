@@ -7,5 +7,5 @@ use Rattle.queue.proofs.owing.settle.Goals as goal
 pub returns : goal.returns
 returns c =
     let q = c.args.q.now in
-    let e : c.u32_at-end.result ≡ pending_end q = c.u32_at-end.ensures.value in
-    rw (c.put_u32.ensures, e) (settling q c.requires.0 (kept-flag q c.requires.1))
+    let e : c.of-end.result.end ≡ pending_end q = c.of-end.ensures.pending_end in
+    rw (c.put_number.ensures, e) (settling q c.requires.0 (kept-flag q c.requires.1))

@@ -33,7 +33,7 @@ returns c =
     let q = c.args.q.now in
     let n = c.first_length-n.result in
     let en : n ≡ first_length (queued_of q) = c.first_length-n.ensures in
-    let h : c.u32_at-at.result ≡ head q = c.u32_at-at.ensures.value in
+    let h : c.of-at.result.head ≡ head q = c.of-at.ensures.head in
     let k : 20 + head q + first_length (queued_of q) - (20 + head q) ≡ first_length (queued_of q) = omega arith in
     record {
       count = en;

@@ -10,15 +10,15 @@ pub overflow_add-n : goal.overflow_add-n
 overflow_add-n c =
     omega (arith, first_length-most (queued_of c.args.q.now), length-queued_of c.requires.0.in_step)
 
-pub returns-then-queued-n : goal.returns-then-queued-n
-returns-then-queued-n c =
+pub returns-then-tail-head : goal.returns-then-tail-head
+returns-then-tail-head c =
     let q = c.args.q.now in
     let e : c.args.n ≡ first_length (queued_of q) = c.requires.1 in
     last_taken q c.clear.new.q c.requires.0 (omega arith) c.clear.ensures
 
-pub returns-else-queued-n : goal.returns-else-queued-n
-returns-else-queued-n c =
+pub returns-else-tail-head : goal.returns-else-tail-head
+returns-else-tail-head c =
     let q = c.args.q.now in
     let e : c.args.n ≡ first_length (queued_of q) = c.requires.1 in
-    let h : c.u32_at-head.result ≡ head q = c.u32_at-head.ensures.value in
-    rw c.put_u32.ensures (first_taken q _ c.requires.0 (omega arith) (omega arith))
+    let h : c.of-head.result.head ≡ head q = c.of-head.ensures.head in
+    rw c.put_number.ensures (first_taken q _ c.requires.0 (omega arith) (omega arith))

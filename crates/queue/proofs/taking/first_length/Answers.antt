@@ -10,7 +10,7 @@ returns-then-queued-lt4 c = sym (first_length-short c.requires.in_step (omega ar
 pub returns : goal.returns
 returns c =
     let q = c.args.q.now in
-    let h : c.u32_at-head.result ≡ head q = c.u32_at-head.ensures.value in
-    let t : c.u32_at.result ≡ tail q = c.u32_at.ensures.value in
-    let n = c.u32_at-2.ensures.value in
+    let h : c.of-head.result.head ≡ head q = c.of-head.ensures.head in
+    let t : c.of-head.result.tail ≡ tail q = c.of-head.ensures.tail in
+    let n = c.number_at.ensures.value in
     c.min.ensures ∙ rw (n, h, t) (sym (first_length-queued_of c.requires.in_step (omega arith)))

@@ -1,35 +1,29 @@
-use native.Mathlib.Omega.{arith}
+-- `server_text::fields::keyed_fields`: a key without NUL, then what follows it.
+use lib.ListN.{length, drop}
+use Rattle.text.proofs.ScanLaws.{on-err}
+use Rattle.server_text.specs.Fields.{string_in, keyed_in}
+use Rattle.server_text.specs.Promises.{Builds}
 use Rattle.server_text.proofs.PayloadLaws.{keyed-nul, keyed-built, keyed-bad, keyed-malformed}
 use Rattle.server_text.proofs.fields.keyed_fields.Goals as goal
 
-pub returns-then-nul : goal.returns-then-nul
-returns-then-nul c =
-    keyed-nul (rw c.in-String.is at c.string_field-k.ensures) c.if-nul.true
+pub returns-in_err-key : goal.returns-in_err-key
+returns-in_err-key c =
+    let A = c.args in
+    on-err
+    (λ r. Builds (keyed_in (string_in (drop A.at A.line.now))) (length A.line.now) A.buf.now A.to r
+    c.string_field.new.buf) c.from_residual.result c.from_residual.ensures.0
+    (keyed-malformed _ c.in_err-key.ensures)
 
-pub overflow_add-to : goal.overflow_add-to
-overflow_add-to c =
-    let w = rw c.in-String.is at c.string_field-k.ensures in omega arith
+pub returns-then-key : goal.returns-then-key
+returns-then-key c = keyed-nul c.in_ok-key.ensures c.if-key.true
 
-pub value_tail-v-requires : goal.value_tail-v-requires
-value_tail-v-requires c =
-    let w = rw c.in-String.is at c.string_field-k.ensures in (omega arith, omega arith)
+pub returns-in_err-value : goal.returns-in_err-value
+returns-in_err-value c =
+    let A = c.args in
+    on-err
+    (λ r. Builds (keyed_in (string_in (drop A.at A.line.now))) (length A.line.now) A.buf.now A.to r
+    c.value_tail.new.buf) c.from_residual-in_err-value.result c.from_residual-in_err-value.ensures.0
+    (keyed-bad c.in_ok-key.ensures c.in_err-value.ensures)
 
-pub overflow_add-result : goal.overflow_add-result
-overflow_add-result c =
-    let w = rw c.in-String.is at c.string_field-k.ensures in
-    let v = rw c.in-Payload.is at c.value_tail-v.ensures in omega
-    arith
-
-pub returns-in-Bad : goal.returns-in-Bad
-returns-in-Bad c =
-    keyed-malformed _ (rw c.in-Bad.is at c.string_field-k.ensures)
-
-pub returns-in-Payload : goal.returns-in-Payload
-returns-in-Payload c =
-    keyed-built (rw c.in-String.is at c.string_field-k.ensures) (cc)
-    (rw c.in-Payload.is at c.value_tail-v.ensures)
-
-pub returns-in-Faulty : goal.returns-in-Faulty
-returns-in-Faulty c =
-    keyed-bad (rw c.in-String.is at c.string_field-k.ensures)
-    (rw c.in-Faulty.is at c.value_tail-v.ensures)
+pub returns : goal.returns
+returns c = keyed-built c.in_ok-key.ensures (cc) c.in_ok-value.ensures

@@ -7,6 +7,4 @@ pub returns-then-line-at : goal.returns-then-line-at
 returns-then-line-at c = value_none c.args.line.now c.args.at _ _ _ c.if-line-at.true
 
 pub returns : goal.returns
-returns c =
-    rw (value_on c.args.line.now c.args.at (omega arith))
-    c.led_string.ensures
+returns c = rw (value_on c.args.line.now c.args.at (omega arith)) c.led_string.ensures

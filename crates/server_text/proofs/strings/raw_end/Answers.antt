@@ -1,36 +1,30 @@
--- `server_text::strings::raw_end`: all bytes from `at` to i stand raw, block by block.
-use borrow.Author.Rules.{rules}
+-- `server_text::strings::raw_end`: the blocks so far may all stand raw.
+use Rattle.std.proofs.Common.{rules}
 use mathlib.Core.Path.{◌≡◌, sym, ap, ◌∙◌}
-use Prim.Native.Nat.{ℕ, ◌+◌, ◌-◌}
 use native.Mathlib.Omega.{arith}
-use lib.ListN.{take, drop}
+use Rattle.std.specs.Slice.Iter.{chunks_exact_rest, chunks_exact_size}
 use Rattle.message.specs.Quoting.{escaped}
-use Rattle.server_text.proofs.ScanLaws.{raw-start, raw-more, raw-then}
+use Rattle.text.proofs.ScanLaws.{tail_whole}
+use Rattle.server_text.proofs.ScanLaws.{raw-start, raw-block, raw-then}
 use Rattle.server_text.proofs.strings.raw_end.Goals as goal
 
-pub overflow_sub-line : goal.overflow_sub-line
-overflow_sub-line c = c.loop-i.invariant.place.within
+pub loop-block-init : goal.loop-block-init
+loop-block-init c =
+    let A = c.args in
+    let same = c.into_iter-block-iterator.ensures.into_iter_gives in
+    let chunks = c.chunks_exact-block-items.ensures in
+    let size = ap chunks_exact_size same ∙ chunks.size in
+    let rest = ap chunks_exact_rest same ∙ chunks.rest ∙ tail_whole A.line.now A.at in
+    (omega arith, tt, size, rest, raw-start _ _ (search rules))
 
-pub raw_from-requires : goal.raw_from-requires
-raw_from-requires c = c.loop-i.invariant.place.within
-
-pub returns-then-n-ne0 : goal.returns-then-n-ne0
-returns-then-n-ne0 c = raw-then c.loop-i.invariant c.raw_from.ensures
-
-pub loop-i-preserved : goal.loop-i-preserved
-loop-i-preserved c =
-    let line = c.args.line.now in
-    let i = c.loop-i.i in
-    let n : i + 32 - i ≡ 32 = omega arith in
-    let e : escaped (take 32 (drop i line)) ≡ 0 =
-    sym (ap (λ (k : ℕ). escaped (take k (drop i line))) n) ∙ sym c.escaped_in-n.ensures ∙ omega arith in
-    raw-more c.loop-i.invariant 32 (omega arith) e
-
-pub loop-i-init : goal.loop-i-init
-loop-i-init c = raw-start _ _ (search rules)
-
-pub raw_from-requires-2 : goal.raw_from-requires-2
-raw_from-requires-2 c = c.loop-i.invariant.place.within
+pub loop-block-preserved : goal.loop-block-preserved
+loop-block-preserved c =
+    let L = c.loop-block.invariant in
+    let step = c.in-Some.ensures.steps in
+    let size = step.0 ∙ L.2 in
+    let clean : escaped c.in-Some.block.now ≡ 0 = sym c.escaped_in.ensures ∙ omega arith in
+    let more = raw-block L.4 c.in-Some.block.now _ (sym L.3 ∙ step.1.0) (step.1.1 ∙ L.2) clean in
+    (omega arith, tt, size, more.0, more.1)
 
 pub returns : goal.returns
-returns c = raw-then c.loop-i.invariant c.raw_from-2.ensures
+returns c = raw-then c.loop-block.invariant.4 c.raw_from.ensures

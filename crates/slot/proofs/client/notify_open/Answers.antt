@@ -1,14 +1,10 @@
 use mathlib.Core.Path.{sym, ap, ◌∙◌}
-use lib.Seq.{length-take-le}
 use Rattle.model.specs.State.{used}
 use Rattle.slot.specs.Promises.{room_of}
 use Rattle.slot.proofs.Slots.{slot_of-used}
 use Rattle.slot.proofs.Operations.{open-client}
 use Rattle.slot.proofs.Resting.{becomes-same, notified-info, notified-same}
 use Rattle.slot.proofs.client.notify_open.Goals as goal
-
-pub slice_bounds-any_accepts-end-2 : goal.slice_bounds-any_accepts-end-2
-slice_bounds-any_accepts-end-2 c = sym (length-take-le c.args.key c.args.body.now c.requires.1)
 
 pub returns-then-any_accepts : goal.returns-then-any_accepts
 returns-then-any_accepts c =

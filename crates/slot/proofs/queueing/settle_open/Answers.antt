@@ -1,6 +1,4 @@
 use mathlib.Core.Path.{sym, ◌∙◌}
-use native.Mathlib.Omega.{arith}
-use Rattle.queue.proofs.Regions.{in-step-less}
 use Rattle.slot.proofs.Operations.{lent-queue, open-queue, open-client, open-reserve}
 use Rattle.slot.proofs.Lent.{lent-queued}
 use Rattle.slot.proofs.Resting.{settled-refused, settled-queued}
@@ -10,13 +8,8 @@ pub returns-then-is_overflown : goal.returns-then-is_overflown
 returns-then-is_overflown c =
     rw (settled-refused c.requires (sym (rw (lent-queue c.args.r c.args.s.now) at c.is_overflown.ensures) ∙ c.if-is_overflown.true)) c.refuse.ensures
 
-pub settle-requires : goal.settle-requires
-settle-requires c =
-    rw (lent-queue c.args.r c.args.s.now)
-    (in-step-less (omega arith) (open-queue c.requires), sym (rw (lent-queue c.args.r c.args.s.now) at c.is_overflown.ensures) ∙ c.if-is_overflown.false)
-
-pub returns : goal.returns
-returns c =
+pub returns-else-is_overflown : goal.returns-else-is_overflown
+returns-else-is_overflown c =
     let h = c.requires in
     let b = rw (lent-queue c.args.r c.args.s.now) at c.settle.ensures in
     rw (settled-queued h (sym (rw (lent-queue c.args.r c.args.s.now) at c.is_overflown.ensures) ∙ c.if-is_overflown.false))

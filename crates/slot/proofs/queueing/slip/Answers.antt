@@ -56,7 +56,7 @@ returns c =
     let br = rw (lent-recording A.r s) at c.spoil.ensures in
     let bq =
     subst (λ (k : Kind). PuttingError k A.refusal (queue_part A.r (sets s 4104 v)) q)
-    c.kind-kind.ensures
+    c.from-kind.ensures.0
     (rw (back (goal.at.returns c).After-spoil, lent-queue A.r (sets s 4104 v)) at c.put_error.ensures) in
     rw (
       back (goal.at.returns c).After-spoil,

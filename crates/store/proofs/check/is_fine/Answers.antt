@@ -13,6 +13,8 @@ use Rattle.store.specs.Region.{used_of, count_of, rows_of, rows_fine, store_fine
 use Rattle.store.specs.Index.{Indexes}
 use Rattle.store.proofs.Indexing.{unindexed}
 use Rattle.store.proofs.check.is_fine.Goals as goal
+use Rattle.store.proofs.check.is_fine.Goals.{then-st-used-via-then-st-used}
+use Rattle.store.proofs.check.is_fine.Goals.{then-st-used-via-else-st-used+then-count-gt1024}
 
 module _ (st : Bytes) where
   fine-short : length st < 8 → false ≡ store_fine st
@@ -48,27 +50,27 @@ returns-then-st-lt8 c =
     (fine-short c.args.st.now c.if-st-lt8.true, unindexed _ _ c.requires)
 
 pub returns-then-st-used : goal.returns-then-st-used
-returns-then-st-used c = (
-  fine-full c.args.st.now c.u32_at-used.result c.u32_at-used.ensures.value
-      c.if-st-lt8.false c.if-st-used.true,
-  unindexed _ _ c.requires,
-)
-
-pub returns-then-count-gt1024 : goal.returns-then-count-gt1024
-returns-then-count-gt1024 c = (
-  fine-many c.args.st.now c.u32_at-used.result c.u32_at-count.result
-      c.u32_at-used.ensures.value c.u32_at-count.ensures.value
-      c.if-st-lt8.false c.if-st-used.false c.if-count-gt1024.true,
-  unindexed _ _ c.requires,
-)
+returns-then-st-used c =
+    let st = c.args.st.now in
+    let u = c.number_at-used in
+    let n = c.number_at-count in
+    elim c.then-st-used.branch [
+      | then-st-used-via-then-st-used w ↦
+          (fine-full st u.result u.ensures.value c.if-st-lt8.false w.if-st-used.true, unindexed _ _ c.requires)
+      | then-st-used-via-else-st-used+then-count-gt1024 w ↦ (
+        fine-many st u.result n.result u.ensures.value n.ensures.value
+            c.if-st-lt8.false w.if-st-used.false w.if-count-gt1024.true,
+        unindexed _ _ c.requires,
+      )
+    ]
 
 pub returns : goal.returns
 returns c =
     let r = c.rows_fine in (
       r.ensures.0
-          ∙ fine-rows c.args.st.now c.u32_at-used.result c.u32_at-count.result
-          c.u32_at-used.ensures.value c.u32_at-count.ensures.value
+          ∙ fine-rows c.args.st.now c.number_at-used.result c.number_at-count.result
+          c.number_at-used.ensures.value c.number_at-count.ensures.value
           c.if-st-lt8.false c.if-st-used.false c.if-count-gt1024.false,
-      indexed-rows c.args.st.now c.u32_at-used.result c.u32_at-count.result
-          c.u32_at-used.ensures.value c.u32_at-count.ensures.value r.ensures.1,
+      indexed-rows c.args.st.now c.number_at-used.result c.number_at-count.result
+          c.number_at-used.ensures.value c.number_at-count.ensures.value r.ensures.1,
     )

@@ -1,10 +1,9 @@
--- `store::check::rows_fine` meets its contract. The loop's invariant: all rows but the `left` last ones have passed, in
--- n walks, and the index is one of the store. The measure is `left`.
-use mathlib.Core.Path.{◌≡◌, refl, sym, ◌∙◌}
-use Prim.Native.Nat.{◌+◌, ◌-◌}
+-- `store::check::rows_fine` meets its contract.
+use mathlib.Core.Path.{◌≡◌, sym}
+use Prim.Native.Nat.{◌+◌, ◌-◌, ◌*◌, ◌<◌, min}
 use native.Mathlib.Omega.{arith}
-use borrow.Author.Tests.{not-true, not-false}
-use lib.ListN.{length, length-set}
+use Rattle.std.proofs.Common.{lit<}
+use Rattle.std.proofs.lemmas.Grind.{div_ceil_times}
 use Rattle.store.specs.Region.{entries}
 use Rattle.store.specs.Index.{Indexes}
 use Rattle.store.proofs.Indexing.{unindexed, indexes-set}
@@ -13,77 +12,59 @@ use Rattle.store.proofs.Walks.{passed-boundary, passed-end, failed-end}
 use Rattle.store.proofs.check.rows_fine.Goals as goal
 use Rattle.store.proofs.check.rows_fine.Goals.{After-note}
 
+-- a walk begins in front of a row
+begun : (c : After-note) → 32 * c.loop-n.n < c.args.count
+begun c =
+    let d = div_ceil_times c.args.count 32 (lit< tt) in
+    omega (arith, c.div_ceil-n-end.ensures)
+
 -- the offset that is noted is where a row begins
-indexed : (c : After-note)
-    → Indexes (entries c.args.count
-    c.args.rows.now) c.note.new.index
+indexed : (c : After-note) → Indexes (entries c.args.count c.args.rows.now) c.note.new.index
 indexed c =
-    let L = c.loop-left in
+    let L = c.loop-n in
     let count = c.args.count in
-    let b = passed-boundary L.invariant.2 L.left count (omega (arith, L.invariant.0)) in
-    rw c.note.ensures (indexes-set L.n L.invariant.3 b)
+    let done = min (32 * L.n) count in
+    let b = passed-boundary L.invariant.passed (count - done) count (omega arith) in
+    rw c.note.ensures (indexes-set L.n L.invariant.indexed b)
 
-same_size : (c : After-note)
-    → length c.note.new.index ≡ length c.args.index.now
-same_size c =
-    let L = c.loop-left in
-    rw c.note.ensures (length-set L.index L.n L.at ∙ L.invariant.1)
-
-pub loop-left-init : goal.loop-left-init
-loop-left-init c =
+pub loop-n-init : goal.loop-n-init
+loop-n-init c =
     let A = c.args in
-    let z : A.count - A.count ≡ 0 = omega arith in (
-      omega arith,
-      refl,
-      rw z (passed_start (reached-start A.rows.now)),
-      unindexed (entries A.count A.rows.now) A.index.now c.requires,
+    let z : min 0 A.count ≡ 0 = omega arith in
+    record {
+      passed = rw z (passed_start (reached-start A.rows.now));
+      indexed = unindexed (entries A.count A.rows.now) A.index.now c.requires;
+    }
+
+pub returns-in_default : goal.returns-in_default
+returns-in_default c =
+    let a = (goal.at.returns-in_default c).After-note in
+    let L = c.loop-n in
+    let count = c.args.count in
+    let k = c.min in
+    let b = begun a in (
+      sym (failed-end (failed-append L.invariant.passed c.in_default.ensures)
+          (count - (min (32 * L.n) count + k.result)) count (omega (arith, k.ensures))),
+      indexed a,
     )
 
-pub walk_rows-w-requires : goal.walk_rows-w-requires
-walk_rows-w-requires c = c.loop-left.invariant.2.reached
-
-pub shape_of-index-then-not-w : goal.shape_of-index-then-not-w
-shape_of-index-then-not-w c = same_size (goal.at.shape_of-index-then-not-w c).After-note
-
-pub returns-then-not-w : goal.returns-then-not-w
-returns-then-not-w c =
-    let L = c.loop-left in
+pub loop-n-preserved : goal.loop-n-preserved
+loop-n-preserved c =
+    let a = (goal.at.loop-n-preserved c).After-note in
+    let L = c.loop-n in
     let count = c.args.count in
-    let k = c.min-k in
-    let w = c.walk_rows-w in
-    let f = w.ensures.failed (not-true w.result.fine c.if-not-w.true) in (
-      sym (failed-end (failed-append L.invariant.2 f) (L.left - k.result) count
-          (omega (arith, L.invariant.0, k.ensures))),
-      indexed (goal.at.returns-then-not-w c).After-note,
-    )
-
-pub overflow_sub-left : goal.overflow_sub-left
-overflow_sub-left c = omega (arith, c.min-k.ensures)
-
-pub overflow_add-n : goal.overflow_add-n
-overflow_add-n c =
-    let L = c.loop-left in
-    omega (arith, L.invariant.0)
-
-pub loop-left-smaller : goal.loop-left-smaller
-loop-left-smaller c = omega (arith, c.min-k.ensures)
-
-pub loop-left-preserved : goal.loop-left-preserved
-loop-left-preserved c =
-    let L = c.loop-left in
-    let count = c.args.count in
-    let k = c.min-k in
-    let w = c.walk_rows-w in
-    let p = w.ensures.passed (not-false w.result.fine c.if-not-w.false) in
-    let n : count - L.left + k.result ≡ count - (L.left - k.result) = omega (arith, L.invariant.0, k.ensures) in
-    (omega (arith, L.invariant.0, k.ensures), same_size (goal.at.loop-left-preserved c).After-note, rw n at (passed-append L.invariant.2 p), indexed (goal.at.loop-left-preserved c).After-note)
-
-pub shape_of-index : goal.shape_of-index
-shape_of-index c = c.loop-left.invariant.1
+    let k = c.min in
+    let b = begun a in
+    let n : min (32 * L.n) count + k.result ≡ min (32 * (L.n + 1)) count = omega (arith, k.ensures) in
+    record {
+      passed = rw n at (passed-append L.invariant.passed c.in-Some.ensures);
+      indexed = indexed a;
+    }
 
 pub returns : goal.returns
 returns c =
-    let L = c.loop-left in
+    let L = c.loop-n in
     let count = c.args.count in
-    let n : count - L.left ≡ count = omega (arith, c.loop-left-test.false) in
-    (sym (passed-end (rw n at L.invariant.2)), L.invariant.3)
+    let d = div_ceil_times count 32 (lit< tt) in
+    let n : min (32 * L.n) count ≡ count = omega (arith, c.div_ceil-n-end.ensures) in
+    (sym (passed-end (rw n at L.invariant.passed)), L.invariant.indexed)

@@ -1,15 +1,12 @@
-use mathlib.Core.Path.{◌≡◌}
-use Prim.Native.Nat.{◌+◌, ◌-◌, ◌≤◌}
-use lib.ListN.{length}
+use Prim.Native.Nat.{◌*◌, min}
 use Rattle.store.specs.Region.{entries}
 use Rattle.store.specs.Index.{Indexes}
 use Rattle.store.specs.Walk.{Passed}
 use Rattle.store.proofs.check.rows_fine.Given as goal
 
-abbrev pub invariant-loop-left : goal.invariant-loop-left
-invariant-loop-left l =
-    (l.n + l.left ≤ l.count) × (length l.index ≡ length l.initial.index) × Passed l.rows 0 0 (l.count - l.left) l.prev l.at
-    × Indexes (entries l.count l.rows) l.index
-
-abbrev pub decreases-loop-left : goal.decreases-loop-left
-decreases-loop-left l = l.left
+-- Of the rows 32 for each walk have passed, or all, and the index is one of the store.
+abbrev pub invariant-loop-n : goal.invariant-loop-n
+invariant-loop-n l = record {
+  passed : Passed l.rows 0 0 (min (32 * l.n) l.count) l.walk.prev l.walk.at;
+  indexed : Indexes (entries l.count l.rows) l.index;
+}

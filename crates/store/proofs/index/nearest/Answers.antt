@@ -3,23 +3,13 @@
 use mathlib.Core.Path.{sym, ◌∙◌}
 use Prim.Native.Nat.{◌+◌, ◌-◌, ◌/◌}
 use native.Mathlib.Omega.{arith}
-use Rattle.store.proofs.Region.{represents}
 use Rattle.store.proofs.Turns.{start-front, start-at}
 use Rattle.store.proofs.index.nearest.Goals as goal
-
-pub u32_at-requires : goal.u32_at-requires
-u32_at-requires c =
-    let r = represents c.args.st.now c.requires.0 in
-    omega arith
 
 pub loop-low-init : goal.loop-low-init
 loop-low-init c =
     let A = c.args in
     (start-front A.st.now A.key.now, omega (arith, c.min-high.ensures))
-
-pub is_before-requires : goal.is_before-requires
-is_before-requires c =
-    (c.requires.0, c.requires.1.each _ (omega arith))
 
 pub loop-low-preserved-then-is_before : goal.loop-low-preserved-then-is_before
 loop-low-preserved-then-is_before c =
@@ -27,11 +17,3 @@ loop-low-preserved-then-is_before c =
     let x = c.requires.1.each (L.low + (L.high - L.low) / 2) (omega (arith, L.invariant.1)) in
     let b = sym c.is_before.ensures ∙ c.if-is_before.true in
     (start-at c.args.st.now c.requires.0 x b, L.invariant.1)
-
-pub loop-low-preserved : goal.loop-low-preserved
-loop-low-preserved c =
-    let L = c.loop-low in
-    (L.invariant.0, omega (arith, L.invariant.1))
-
-pub returns : goal.returns
-returns c = c.loop-low.invariant.0

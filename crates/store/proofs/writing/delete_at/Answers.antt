@@ -19,53 +19,21 @@ use Rattle.store.proofs.writing.delete_at.Goals as goal
 known : {st : Bytes} {at old : ℕ} → (p : PresentAt st at old) → Gone st p.key at old
 known p = gone p.fine p.found p.present
 
-pub u32_at-used-requires : goal.u32_at-used-requires
-u32_at-used-requires c = let g = known c.requires in omega arith
-
-pub u32_at-count-requires : goal.u32_at-count-requires
-u32_at-count-requires c = let g = known c.requires in omega arith
-
-pub overflow_add-behind : goal.overflow_add-behind
-overflow_add-behind c = let g = known c.requires in omega arith
-
-pub overflow_sub-behind : goal.overflow_sub-behind
-overflow_sub-behind c = let g = known c.requires in omega arith
-
-pub overflow_add-at : goal.overflow_add-at
-overflow_add-at c = let g = known c.requires in omega arith
-
-pub overflow_add-at-2 : goal.overflow_add-at-2
-overflow_add-at-2 c = let g = known c.requires in omega arith
-
-pub overflow_add-at-3 : goal.overflow_add-at-3
-overflow_add-at-3 c = let g = known c.requires in omega arith
-
-pub shift-requires : goal.shift-requires
-shift-requires c = let g = known c.requires in omega arith
-
-pub overflow_sub-count : goal.overflow_sub-count
-overflow_sub-count c =
-    let g = known c.requires in
-    omega (arith, c.u32_at-count.ensures.value)
-
-pub put_head-requires : goal.put_head-requires
-put_head-requires c = let g = known c.requires in omega arith
-
 pub returns : goal.returns
 unfolding store_after_write own Rows
 returns c k d =
     let st = c.args.st.now in
     let at = c.args.at in
     let old = c.args.old in
-    let used = c.u32_at-used.result in
-    let count = c.u32_at-count.result in
+    let used = c.used-used.result in
+    let count = c.count-count.result in
     let behind = used - (at + old) in
     let moved = sets st (8 + at) (part st (8 + at + old) behind) in
     let g = gone c.requires.fine d c.requires.present in
     let e : c.put_head.new.st ≡ headed moved (at + behind) (count - 1) =
-    c.put_head.ensures ∙ ap (λ (x : Bytes). headed x (at + behind) (count - 1)) c.shift.ensures in
-    let eu : used ≡ used_of st = c.u32_at-used.ensures.value in
-    let ec : count ≡ count_of st = c.u32_at-count.ensures.value in
+    c.put_head.ensures ∙ ap (λ (x : Bytes). headed x (at + behind) (count - 1)) c.move_bytes.ensures in
+    let eu : used ≡ used_of st = c.used-used.ensures in
+    let ec : count ≡ count_of st = c.count-count.ensures in
     rw e
     (becomes-write st k none at old behind (8 + at + old) (8 + at) (at + behind) (count - 1) []
     c.requires.fine d refl

@@ -20,51 +20,6 @@ use Rattle.store.proofs.writing.write_at.Goals as goal
 known : {st p : Bytes} {n at old : ℕ} → WritableAt st p n at old → Ready st p n at old
 known {st} {p} {n} {at} {old} w = ready st p n at old w.writable w.found
 
-pub u32_at-used-requires : goal.u32_at-used-requires
-u32_at-used-requires c = let r = known c.requires in omega arith
-
-pub u32_at-count-requires : goal.u32_at-count-requires
-u32_at-count-requires c = let r = known c.requires in omega arith
-
-pub overflow_add-behind : goal.overflow_add-behind
-overflow_add-behind c = let r = known c.requires in omega arith
-
-pub overflow_sub-behind : goal.overflow_sub-behind
-overflow_sub-behind c = let r = known c.requires in omega arith
-
-pub overflow_add-at : goal.overflow_add-at
-overflow_add-at c = let r = known c.requires in omega arith
-
-pub overflow_add-at-2 : goal.overflow_add-at-2
-overflow_add-at-2 c = let r = known c.requires in omega arith
-
-pub overflow_add-at-3 : goal.overflow_add-at-3
-overflow_add-at-3 c = let r = known c.requires in omega arith
-
-pub overflow_add-at-4 : goal.overflow_add-at-4
-overflow_add-at-4 c = let r = known c.requires in omega arith
-
-pub shift-requires : goal.shift-requires
-shift-requires c = let r = known c.requires in omega arith
-
-pub overflow_add-at-5 : goal.overflow_add-at-5
-overflow_add-at-5 c = let r = known c.requires in omega arith
-
-pub write-requires : goal.write-requires
-write-requires c = let r = known c.requires in omega arith
-
-pub overflow_add-at-6 : goal.overflow_add-at-6
-overflow_add-at-6 c =
-    let r = known c.requires in omega arith
-
-pub overflow_add-at-7 : goal.overflow_add-at-7
-overflow_add-at-7 c =
-    let r = known c.requires in omega arith
-
-pub put_head-requires : goal.put_head-requires
-put_head-requires c =
-    let r = known c.requires in omega arith
-
 pub returns : goal.returns
 unfolding put_payload store_after_write
 returns c =
@@ -73,8 +28,8 @@ returns c =
     let st = a.st.now in
     let p = a.payload.now in
     let b = row_bytes a.key p in
-    let used = c.u32_at-used.result in
-    let count = c.u32_at-count.result in
+    let used = c.used-used.result in
+    let count = c.count-count.result in
     let behind = used - (a.at + a.old) in
     let from = 8 + a.at + a.old in
     let to = 8 + a.at + (7 + length p) in
@@ -83,10 +38,10 @@ returns c =
     let e : c.put_head.new.st ≡ headed (sets (sets st to (part st from behind)) (8 + a.at) b) used' count' =
     c.put_head.ensures
     ∙ ap (λ (x : Bytes). headed x used' count')
-    (c.write.ensures ∙ ap (λ (x : Bytes). sets x (8 + a.at) b) c.shift.ensures) in
+    (c.write.ensures ∙ ap (λ (x : Bytes). sets x (8 + a.at) b) c.move_bytes.ensures) in
     let l = length-row_bytes a.key p in
-    let eu : used ≡ used_of st = c.u32_at-used.ensures.value in
-    let ec : count ≡ count_of st = c.u32_at-count.ensures.value in
+    let eu : used ≡ used_of st = c.used-used.ensures in
+    let ec : count ≡ count_of st = c.count-count.ensures in
     let er = c.row_count.ensures.0 in
     rw e
     (becomes-write st (take a.key p) (some (drop (a.key + 1) p)) a.at a.old behind from to used' count' b

@@ -1,16 +1,22 @@
--- `text::fields::word_end`: from `at` to i there is no space.
-use borrow.Author.Rules.{rules}
-use Rattle.text.proofs.ScanLaws.{spelling-start, spelling-on, spelling-stop, spelling-end}
+-- `text::fields::word_end`: up to the first space.
+use Rattle.std.proofs.Common.{rules, tests}
+use native.Mathlib.Omega.{arith}
+use mathlib.Core.Path.{◌≡◌, ap, ◌∙◌}
+use Prim.Native.Nat.{◌+◌}
+use lib.ListN.{drop}
+use Rattle.std.specs.List.{position}
+use Rattle.std.proofs.lemmas.Iterator.{YieldsList-from_slice}
+use Rattle.std.proofs.lemmas.Iterator.Search.{position_from_yields_List}
+use Rattle.text.proofs.ScanLaws.{tail_whole, space, spells}
 use Rattle.text.proofs.fields.word_end.Goals as goal
 
-pub loop-i-init : goal.loop-i-init
-loop-i-init c = spelling-start _ _ (search rules)
-
-pub returns-then-line-i-eq32 : goal.returns-then-line-i-eq32
-returns-then-line-i-eq32 c = spelling-stop c.loop-i.invariant c.loop-i-test.true c.if-line-i-eq32.true
-
-pub loop-i-preserved : goal.loop-i-preserved
-loop-i-preserved c = spelling-on c.loop-i.invariant c.loop-i-test.true c.if-line-i-eq32.false
-
 pub returns : goal.returns
-returns c = spelling-end c.loop-i.invariant c.loop-i-test.false
+returns c =
+    let A = c.args in
+    let rest = c.iter.ensures.rest ∙ tail_whole A.line.now A.at in
+    let e : c.position.result ≡ position space (drop A.at A.line.now) =
+    position_from_yields_List space _ _ _ c.position.ensures.ran (YieldsList-from_slice (drop A.at A.line.now) rest)
+    (λ x b q k. search (rules, tests))
+    in
+    spells A.line.now A.at (omega arith) _
+    (ap (◌+◌ A.at) (c.unwrap_or.ensures ∙ rw (e, tail_whole A.line.now A.at)))

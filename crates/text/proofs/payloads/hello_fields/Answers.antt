@@ -1,59 +1,26 @@
 -- `text::payloads::hello_fields`: a version, then a text.
 use native.Mathlib.Omega.{arith}
-use mathlib.Core.Path.{refl, sym, ◌∙◌}
 use lib.ListN.{drop}
-use Rattle.text.proofs.PayloadLaws.{hello-none, hello-version, hello-fault, hello-text, hello-more}
-use borrow.Author.Rules.{rules}
+use Rattle.text.specs.Payload.{hello_payload}
+use Rattle.text.specs.PayloadPost.{BuildsLine, has_version}
+use Rattle.text.proofs.ScanLaws.{on-err}
+use Rattle.text.proofs.PayloadLaws.{hello-none, hello-fault, hello-built}
 use Rattle.text.proofs.payloads.hello_fields.Goals as goal
 
-pub next_field-t-requires : goal.next_field-t-requires
-next_field-t-requires c = let w = (rw c.in-Is.is at
-    c.version_field-v.ensures) in search rules
+pub returns-in_default : goal.returns-in_default
+returns-in_default c = hello-none (drop c.args.at c.args.line.now) _ _ _ (omega arith)
+    (rw c.in_default.is at c.in_ok-version.ensures) c.put.ensures
 
-pub is_ended-last-requires : goal.is_ended-last-requires
-is_ended-last-requires c =
-    (rw c.in-Field.is at c.next_field-t.ensures).within
+pub returns-in_err-text : goal.returns-in_err-text
+returns-in_err-text c =
+    let A = c.args in
+    let w = rw c.in-Some.is at c.in_ok-version.ensures in
+    on-err (λ r. BuildsLine hello_payload has_version A.line.now A.at A.buf.now r c.last_field.new.buf)
+    c.from_residual-in_err-text.result c.from_residual-in_err-text.ensures.0
+    (hello-fault w A.buf.now _ c.put-2.ensures _ c.in_err-text.ensures)
 
-pub overflow_add-result : goal.overflow_add-result
-overflow_add-result c = let w = (rw c.in-Field.is at c.next_field-t.ensures) in omega arith
-
-pub returns-in-Missing : goal.returns-in-Missing
-returns-in-Missing c = hello-none (drop c.args.at
-    c.args.line.now) _ _ _ (omega arith)
-    (rw c.in-Missing.is at
-    c.version_field-v.ensures)
-    c.put.ensures
-
-pub returns-in-Faulty : goal.returns-in-Faulty
-returns-in-Faulty c = record {
-  is = rw c.in-Faulty.is at c.version_field-v.ensures;
-  same = λ e. refl;
-}
-
-pub returns-in-Nothing : goal.returns-in-Nothing
-returns-in-Nothing c = let p = rw c.in-Nothing.is at c.next_field-t.ensures in
-    hello-version
-    (rw c.in-Is.is at c.version_field-v.ensures) c.args.buf.now _
-    c.put-in-Is.ensures _ p.0 p.1
-
-pub returns-in-Faulty-t : goal.returns-in-Faulty-t
-returns-in-Faulty-t c = hello-fault (rw c.in-Is.is at c.version_field-v.ensures)
-    c.args.buf.now _
-    c.put-in-Is.ensures
-    (rw c.in-Faulty-t.is at c.next_field-t.ensures)
-
-pub returns-then-last : goal.returns-then-last
-returns-then-last c = hello-text (rw c.in-Is.is at
-    c.version_field-v.ensures)
-    c.args.buf.now _
-    c.put-in-Is.ensures (rw c.in-Field.is at
-    c.next_field-t.ensures)
-    (sym c.is_ended-last.ensures ∙ c.if-last.true)
-
-pub returns-else-last : goal.returns-else-last
-returns-else-last c = hello-more (rw c.in-Is.is at
-    c.version_field-v.ensures)
-    c.args.buf.now _
-    c.put-in-Is.ensures (rw c.in-Field.is at
-    c.next_field-t.ensures)
-    (sym c.is_ended-last.ensures ∙ c.if-last.false)
+pub returns : goal.returns
+returns c =
+    let w = rw c.in-Some.is at c.in_ok-version.ensures in
+    rw c.unwrap_or.ensures
+    (hello-built w c.args.buf.now _ c.put-2.ensures _ c.in_ok-text.text c.in_ok-text.ensures)

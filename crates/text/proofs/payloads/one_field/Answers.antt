@@ -1,39 +1,21 @@
--- `text::payloads::one_field`: nothing, or a field and nothing after it.
-use mathlib.Core.Path.{sym, ◌∙◌}
-use lib.ListN.{drop}
-use Rattle.text.proofs.PayloadLaws.{nothing, fails-missing, fails-faulty, one-built, one_more}
+-- `text::payloads::one_field`
+use mathlib.Core.Option.{none}
+use Rattle.text.specs.Payload.{one_payload}
+use Rattle.text.specs.PayloadPost.{BuildsLine, has_field}
+use Rattle.text.proofs.ScanLaws.{on-err}
+use Rattle.text.proofs.PayloadLaws.{one_fails, one-built}
 use Rattle.text.proofs.payloads.one_field.Goals as goal
 
-pub is_ended-last-requires : goal.is_ended-last-requires
-is_ended-last-requires c =
-    (rw c.in-Field.is at c.next_field-f.ensures).within
+pub returns-in_err-last_field : goal.returns-in_err-last_field
+returns-in_err-last_field c =
+    let A = c.args in
+    on-err (λ r. BuildsLine one_payload has_field A.line.now A.at A.buf.now r c.last_field.new.buf)
+    c.from_residual.result
+    c.from_residual.ensures.0
+    (one_fails A.line.now A.at A.buf.now c.last_field.new.buf none c.in_err-last_field.ensures)
 
-pub returns-then-optional : goal.returns-then-optional
-returns-then-optional c =
-    let p = rw c.in-Nothing.is at c.next_field-f.ensures in
-    rw c.if-optional.true (nothing _ _ (drop c.args.at c.args.line.now) _ _ _
-    p.0 p.1)
-
-pub returns-else-optional : goal.returns-else-optional
-returns-else-optional c =
-    let p = rw c.in-Nothing.is at c.next_field-f.ensures in
-    rw c.if-optional.false (fails-missing _ _ (drop c.args.at c.args.line.now)
-    _ _ p.0 p.1)
-
-pub returns-in-Faulty : goal.returns-in-Faulty
-returns-in-Faulty c =
-    fails-faulty _ _ _ (drop c.args.at
-    c.args.line.now)
-    (rw c.in-Faulty.is at c.next_field-f.ensures)
-
-pub returns-then-last : goal.returns-then-last
-returns-then-last c =
-    one-built (rw c.in-Field.is at
-    c.next_field-f.ensures) _
-    (sym c.is_ended-last.ensures ∙ c.if-last.true)
-
-pub returns-else-last : goal.returns-else-last
-returns-else-last c =
-    one_more (rw c.in-Field.is at
-    c.next_field-f.ensures) _
-    (sym c.is_ended-last.ensures ∙ c.if-last.false)
+pub returns : goal.returns
+returns c =
+    let A = c.args in
+    rw c.ok_or.ensures.value (one-built A.line.now A.at A.buf.now c.last_field.new.buf c.in_ok-last_field.field-0 _
+    c.in_ok-last_field.ensures)

@@ -1,28 +1,19 @@
 -- `text::payloads::version_field`: a plain field of digits.
-use Rattle.text.specs.Fields.{quoted}
-use Prim.Native.Nat.{◌+◌}
 use mathlib.Core.Path.{sym, ◌∙◌}
-use lib.ListN.{drop}
-use Rattle.text.proofs.PayloadLaws.{next-none, next-quoted, hello-quoted, version-plain, version-bad}
+use Rattle.text.specs.PayloadPost.{VersionAt}
+use Rattle.text.proofs.ScanLaws.{on-err}
+use Rattle.text.proofs.PayloadLaws.{next-none, version-read, version-bad}
 use Rattle.text.proofs.payloads.version_field.Goals as goal
 
-pub returns-then-line-i : goal.returns-then-line-i
-returns-then-line-i c = next-none c.skip_spaces-i.ensures c.if-line-i.true
+pub returns-in_default : goal.returns-in_default
+returns-in_default c = next-none _ c.in_default.ensures
 
-pub returns-then-line-i-eq34 : goal.returns-then-line-i-eq34
-returns-then-line-i-eq34 c = let A = c.args in
-    let k = c.skip_spaces-i in
-    hello-quoted (drop A.at A.line.now) (quoted (drop (k.result + 1) A.line.now))
-    (next-quoted k.ensures c.if-line-i.false c.if-line-i-eq34.true)
+pub returns-in_err-number : goal.returns-in_err-number
+returns-in_err-number c =
+    let A = c.args in
+    on-err (λ r. VersionAt A.line.now A.at r) c.from_residual.result c.from_residual.ensures.0
+    (version-bad c.in-Some.ensures c.word_end-next.ensures (sym c.number_of.ensures ∙ c.in_err-number.ensures.ok_part))
 
-pub returns-in-Is : goal.returns-in-Is
-returns-in-Is c = version-plain c.skip_spaces-i.ensures c.if-line-i.false
-    c.if-line-i-eq34.false
-    c.word_end-e.ensures _
-    (sym c.number_of-n.ensures ∙ c.in-Is.is)
-
-pub returns-in-Bad : goal.returns-in-Bad
-returns-in-Bad c = version-bad c.skip_spaces-i.ensures
-    c.if-line-i.false
-    c.if-line-i-eq34.false c.word_end-e.ensures
-    (sym c.number_of-n.ensures ∙ c.in-Bad.is)
+pub returns : goal.returns
+returns c = version-read c.in-Some.ensures c.word_end-next.ensures _
+    (sym c.number_of.ensures ∙ c.in_ok-number.ensures.ok_part)

@@ -1,38 +1,35 @@
 -- `text::payloads::write_fields`: a key without NUL, then what follows it.
-use native.Mathlib.Omega.{arith}
 use lib.ListN.{drop}
-use Rattle.text.proofs.PayloadLaws.{fails-missing, fails-faulty, write-nul, write-built, write-bad}
+use Rattle.text.specs.Payload.{write_payload}
+use Rattle.text.specs.PayloadPost.{BuildsLine, has_field}
+use Rattle.text.proofs.ScanLaws.{on-err}
+use Rattle.text.proofs.PayloadLaws.{write-missing, write-faulty, write-nul, write-built, write-bad}
 use Rattle.text.proofs.payloads.write_fields.Goals as goal
 
-pub returns-then-nul : goal.returns-then-nul
-returns-then-nul c = write-nul (rw c.in-Field.is at c.next_field-k.ensures) c.if-nul.true
+pub returns-in_err-next_field : goal.returns-in_err-next_field
+returns-in_err-next_field c =
+    let A = c.args in
+    on-err (λ r. BuildsLine write_payload has_field A.line.now A.at A.buf.now r c.next_field.new.buf)
+    c.from_residual.result c.from_residual.ensures.0 (write-faulty _ c.in_err-next_field.ensures)
 
-pub value_field-v-requires : goal.value_field-v-requires
-value_field-v-requires c = let w = (rw c.in-Field.is at
-    c.next_field-k.ensures) in omega arith
+pub returns-in_err-key : goal.returns-in_err-key
+returns-in_err-key c =
+    let A = c.args in
+    let p = rw c.in_err-key.ensures.ok_part at c.in_ok-next_field.ensures in
+    on-err (λ r. BuildsLine write_payload has_field A.line.now A.at A.buf.now r c.next_field.new.buf)
+    c.from_residual-in_err-key.result c.from_residual-in_err-key.ensures.0
+    (write-missing (drop A.at A.line.now) _ _ p.0 p.1)
 
-pub overflow_add-result : goal.overflow_add-result
-overflow_add-result c = let w = (rw c.in-Field.is at
-    c.next_field-k.ensures) in
-    let v = rw c.in-Payload.is at c.value_field-v.ensures in
-    omega arith
+pub returns-then-key : goal.returns-then-key
+returns-then-key c = write-nul (rw c.in_ok-key.ensures.ok_part at c.in_ok-next_field.ensures) c.if-key.true
 
-pub returns-in-Nothing : goal.returns-in-Nothing
-returns-in-Nothing c =
-    let p = rw c.in-Nothing.is at c.next_field-k.ensures in
-    fails-missing _ _ (drop c.args.at
-    c.args.line.now) _ _ p.0 p.1
+pub returns-in_err-value : goal.returns-in_err-value
+returns-in_err-value c =
+    let A = c.args in
+    on-err (λ r. BuildsLine write_payload has_field A.line.now A.at A.buf.now r c.value_field.new.buf)
+    c.from_residual-in_err-value.result c.from_residual-in_err-value.ensures.0
+    (write-bad (rw c.in_ok-key.ensures.ok_part at c.in_ok-next_field.ensures) c.in_err-value.ensures)
 
-pub returns-in-Faulty : goal.returns-in-Faulty
-returns-in-Faulty c = fails-faulty _ _ _ (drop c.args.at
-    c.args.line.now)
-    (rw c.in-Faulty.is at c.next_field-k.ensures)
-
-pub returns-in-Payload : goal.returns-in-Payload
-returns-in-Payload c = write-built (rw c.in-Field.is
-    at c.next_field-k.ensures) c.if-nul.false
-    (rw c.in-Payload.is at c.value_field-v.ensures)
-
-pub returns-in-Faulty-v : goal.returns-in-Faulty-v
-returns-in-Faulty-v c = write-bad (rw c.in-Field.is at
-    c.next_field-k.ensures) (rw c.in-Faulty-v.is at c.value_field-v.ensures)
+pub returns : goal.returns
+returns c =
+    write-built (rw c.in_ok-key.ensures.ok_part at c.in_ok-next_field.ensures) c.if-key.false c.in_ok-value.ensures

@@ -1,7 +1,0 @@
--- `broker::feeding::feed_binary` meets its contract.
-use native.Mathlib.Omega.{arith}
-use Rattle.broker.proofs.feeding.feed_binary.Goals as goal
-
-pub feed_read-requires : goal.feed_read-requires
-feed_read-requires c =
-    (c.requires.0, omega (arith, c.requires.1), c.requires.2)

@@ -1,9 +1,0 @@
--- `read_wire::script::repeat`: n stays within out.
-use Rattle.std.proofs.Common.{◌-◌, ◌≤◌, length}
-use Rattle.read_wire.proofs.script.repeat.Given as goal
-
-abbrev pub invariant-loop-i : goal.invariant-loop-i
-invariant-loop-i l = l.n ≤ length l.out
-
-abbrev pub decreases-loop-i : goal.decreases-loop-i
-decreases-loop-i l = l.times - l.i

@@ -1,9 +1,0 @@
--- `read_wire::show::string`: i stays within the bytes shown.
-use Rattle.std.proofs.Common.{◌-◌, ◌≤◌}
-use Rattle.read_wire.proofs.show.string.Given as goal
-
-abbrev pub invariant-loop-i : goal.invariant-loop-i
-invariant-loop-i g l = l.i ≤ l.n
-
-abbrev pub decreases-loop-i : goal.decreases-loop-i
-decreases-loop-i g l = l.n - l.i

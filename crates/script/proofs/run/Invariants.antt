@@ -1,6 +1,0 @@
--- `script::run`: the lines before `at` are fed.
-use Rattle.std.proofs.Common.{◌-◌, length}
-use Rattle.script.proofs.run.Given as goal
-
-abbrev pub decreases-loop-at : goal.decreases-loop-at
-decreases-loop-at g l = length l.text - l.at

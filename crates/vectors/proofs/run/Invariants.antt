@@ -1,6 +1,0 @@
--- `vectors::run`: the lines before `at` are run.
-use Rattle.std.proofs.Common.{◌-◌, length}
-use Rattle.vectors.proofs.run.Given as goal
-
-abbrev pub decreases-loop-at : goal.decreases-loop-at
-decreases-loop-at g l = length l.text - l.at

@@ -5,10 +5,10 @@ use mathlib.Core.Bool.{Bool, true, false, not}
 use Prim.Native.Nat.{ℕ, suc, ◌+◌, ◌≤◌, ◌<◌}
 use native.Mathlib.Numerals.{add-one}
 use native.Mathlib.Omega.{arith}
-use lib.Dec.{ltb}
+use lib.Dec.{ltb, eqb}
 use lib.ListN.{length, take, drop, get_or}
 use lib.Seq.{take-suc, drop-cons, drop-length}
-use borrow.Author.Tests.{lt-ltb, le-ltb, ltb-false, leb-true, le-leb}
+use borrow.Author.Tests.{lt-ltb, le-ltb, ltb-false, leb-true, le-leb, ne_eqb}
 use Rattle.octets.specs.Octets.{Bytes}
 use Rattle.octets.specs.Part.{part}
 use Rattle.octets.specs.Number.{number_at}
@@ -106,17 +106,32 @@ module _ (p q q' : Bytes) (t : Tally) where
   unsub-taken m = record { value = λ S s g. taken-kept S (unsub p) s q q' t g refl refl m.holds m.fine }
 
 -- HELLO, READ and PING change nothing
-pub other-taken : (id : CommandId) (p q : Bytes) (t : Tally) → subscriptions_fine q ≡ true
+pub other-taken : (id : ℕ) (p q : Bytes) (t : Tally) → subscriptions_fine q ≡ true
+    → (id ≡ 1 → ⊥) → (id ≡ 2 → ⊥) → (id ≡ 4 → ⊥) → PatternTaken id p t q q (Some t)
+unfolding action_of store_after patterns_after refuses
+other-taken id p q t f n₁ n₂ n₄ =
+    record {
+      value = λ S s g.
+          rw (ne_eqb id 1 n₁, ne_eqb id 2 n₂, ne_eqb id 4 n₄)
+          (either (eqb id 0)
+          (λ e. rw e (taken-kept S (hello p) s q q t g refl refl refl f))
+          (λ e₀. either (eqb id 3)
+          (λ e. rw (e₀, e) (taken-kept S (read p) s q q t g refl refl refl f))
+          (λ e. rw (e₀, e) (taken-kept S (ping p) s q q t g refl refl refl f))));
+    }
+
+-- the same of a command
+pub command-taken : (id : CommandId) (p q : Bytes) (t : Tally) → subscriptions_fine q ≡ true
     → id ≢ Sub → id ≢ Unsub → id ≢ Write → PatternTaken (id_of id) p t q q (Some t)
 unfolding action_of store_after patterns_after refuses
-other-taken Hello p q t f n₁ n₂ n₄ = record { value = λ S s g. taken-kept S (hello p) s q q t g refl refl refl f }
-other-taken Sub p q t f n₁ n₂ n₄ = absurd (n₁ refl)
-other-taken Unsub p q t f n₁ n₂ n₄ = absurd (n₂ refl)
-other-taken Read p q t f n₁ n₂ n₄ = record { value = λ S s g. taken-kept S (read p) s q q t g refl refl refl f }
-other-taken Write p q t f n₁ n₂ n₄ = absurd (n₄ refl)
-other-taken Begin p q t f n₁ n₂ n₄ = record { value = λ S s g. taken-kept S (ping p) s q q t g refl refl refl f }
-other-taken Commit p q t f n₁ n₂ n₄ = record { value = λ S s g. taken-kept S (ping p) s q q t g refl refl refl f }
-other-taken Ping p q t f n₁ n₂ n₄ = record { value = λ S s g. taken-kept S (ping p) s q q t g refl refl refl f }
+command-taken Hello p q t f n₁ n₂ n₄ = record { value = λ S s g. taken-kept S (hello p) s q q t g refl refl refl f }
+command-taken Sub p q t f n₁ n₂ n₄ = absurd (n₁ refl)
+command-taken Unsub p q t f n₁ n₂ n₄ = absurd (n₂ refl)
+command-taken Read p q t f n₁ n₂ n₄ = record { value = λ S s g. taken-kept S (read p) s q q t g refl refl refl f }
+command-taken Write p q t f n₁ n₂ n₄ = absurd (n₄ refl)
+command-taken Begin p q t f n₁ n₂ n₄ = record { value = λ S s g. taken-kept S (ping p) s q q t g refl refl refl f }
+command-taken Commit p q t f n₁ n₂ n₄ = record { value = λ S s g. taken-kept S (ping p) s q q t g refl refl refl f }
+command-taken Ping p q t f n₁ n₂ n₄ = record { value = λ S s g. taken-kept S (ping p) s q q t g refl refl refl f }
 
 -- ---- an action's row
 

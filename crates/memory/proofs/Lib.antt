@@ -2,6 +2,7 @@ pub mod SizeLaws
 pub mod Updates
 pub mod Fresh
 pub mod Lent
+pub mod Bounds
 pub mod Returned
 pub mod Stored
 pub mod Fine

@@ -4,13 +4,10 @@ use std::io;
 
 // Writes the text in quotes, and spaces where it is shorter than `width`.
 pub fn quoted(rt: &impl Print, text: &[u8], width: usize) -> io::Result<()> {
+    let fill = width.saturating_sub(text.len());
     print!(rt; "\"")?;
     rt.write_all(text)?;
-    print!(rt; "\"")?;
-    for _ in text.len()..width {
-        print!(rt; " ")?;
-    }
-    Ok(())
+    print!(rt; "\"{:fill$}", "")
 }
 
 // Writes yes or no and the steps.

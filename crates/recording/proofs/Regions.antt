@@ -95,19 +95,32 @@ pub number-recorded : (r : Bytes) (n : ℕ) → n ≡ number_at 4 r 8 → n ≡ 
 unfolding count_of
 number-recorded r n e = e ∙ count-recorded r
 
-pub is_on-state : (s : State) (n : ℕ) (xs : List Action) → number_of s ≡ n
+pub is_on-state : (state : ℕ) (xs : List Action) → is_on (transaction_in state xs) ≡ not (eqb state 0)
+unfolding transaction_in
+is_on-state state xs =
+    either (eqb state 0) (λ t. rw t) (λ t. rw t (either (eqb state 2) (λ u. rw u) (λ u. rw u)))
+
+pub is_spoiled-state : (state : ℕ) (xs : List Action) → is_spoiled (transaction_in state xs) ≡ eqb state 2
+unfolding transaction_in
+is_spoiled-state state xs =
+    either (eqb state 0)
+    (λ t. rw (eqb-true state 0 t))
+    (λ t. rw t (either (eqb state 2) (λ u. rw u) (λ u. rw u)))
+
+-- the same of a state and its number
+pub is_on-number : (s : State) (n : ℕ) (xs : List Action) → number_of s ≡ n
     → not (sameb the_type s Off) ≡ is_on (transaction_in n xs)
 unfolding transaction_in
-is_on-state Off n xs e = rw (← e)
-is_on-state On n xs e = rw (← e)
-is_on-state Spoiled n xs e = rw (← e)
+is_on-number Off n xs e = rw (← e)
+is_on-number On n xs e = rw (← e)
+is_on-number Spoiled n xs e = rw (← e)
 
-pub is_spoiled-state : (s : State) (n : ℕ) (xs : List Action) → number_of s ≡ n
+pub is_spoiled-number : (s : State) (n : ℕ) (xs : List Action) → number_of s ≡ n
     → sameb the_type s Spoiled ≡ is_spoiled (transaction_in n xs)
 unfolding transaction_in
-is_spoiled-state Off n xs e = rw (← e)
-is_spoiled-state On n xs e = rw (← e)
-is_spoiled-state Spoiled n xs e = rw (← e)
+is_spoiled-number Off n xs e = rw (← e)
+is_spoiled-number On n xs e = rw (← e)
+is_spoiled-number Spoiled n xs e = rw (← e)
 
 pub state-known : (r : Bytes) → recording_fine r ≡ true → state_of r ≤ 2
 unfolding state_fine
@@ -185,4 +198,4 @@ module _ (r : Bytes) (n : ℕ) (h : recording_fine r ≡ true) where
 pub ruleset fits_tests = (fine_head, few-recorded)
 
 -- what the readers of the header rest on
-pub ruleset readers = (fine_head, number-recorded, state-known, is_on-state, is_spoiled-state)
+pub ruleset readers = (fine_head, number-recorded, state-known, is_on-number, is_spoiled-number)

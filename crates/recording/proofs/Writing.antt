@@ -107,7 +107,7 @@ empty-header r s h k f =
     let b = sized-bounds r h in
     record { head = b.0; short = b.1; room = omega arith; few = omega arith; state = f; known = k; rows = refl }
 
-becomes-empty : (r : Bytes) (s : ℕ) → sized r ≡ true → s ≤ 2 → state_fine s 0 ≡ true
+pub becomes-empty : (r : Bytes) (s : ℕ) → sized r ≡ true → s ≤ 2 → state_fine s 0 ≡ true
     → Becomes (transaction_in s []) r (headed r s 0 0)
 unfolding actions_from
 becomes-empty r s h k f =

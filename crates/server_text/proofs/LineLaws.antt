@@ -132,3 +132,7 @@ pub line-open : (s : Bytes) → pointwise eqb (drop (length s - 1) s) (13 ∷ []
     → decoded_line s ≡ decoded_body false s
 unfolding decoded_line
 line-open s e = rw (sym (last-cr s) ∙ e)
+
+pub line-empty : (s : Bytes) → length s ≡ 0 → decoded_line s ≡ decoded_body false s
+line-empty [] h = line-open [] refl
+line-empty (c ∷ s) h = absurd (omega arith)

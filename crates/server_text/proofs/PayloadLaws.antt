@@ -4,7 +4,7 @@ use mathlib.Core.Path.{◌≡◌, refl, sym, ap, ◌∙◌}
 use mathlib.Core.List.{[], ◌∷◌, ◌++◌}
 use mathlib.Core.Bool.{Bool, true, false, cond}
 use mathlib.Core.Option.{Option, none, some, map}
-use Prim.Native.Nat.{ℕ, suc, ◌+◌, ◌-◌, ◌≤◌, ◌<◌}
+use Prim.Native.Nat.{ℕ, zero, suc, ◌+◌, ◌-◌, ◌≤◌, ◌<◌}
 use native.Mathlib.Numerals.{add-one}
 use native.Mathlib.Omega.{arith}
 use lib.ListN.{length, set, get_or, take, drop, length-drop, drop_of_length-le, length-append}
@@ -71,6 +71,14 @@ module _ (s : Bytes) (i : ℕ) where
 pub ruleset no_string = (string-short, string-space, string-mark)
 
 -- ---- a string that nothing follows
+
+-- something follows where the end is not reached
+more : (line : Bytes) (r : ℕ) → r ≤ length line → (r ≡ length line → ⊥) → r < length line
+more line r h n = by (length line - r) refl
+  where
+    by : (d : ℕ) → length line - r ≡ d → r < length line
+    by zero e = absurd (n (omega arith))
+    by (suc d) e = omega arith
 
 module _ {x : Scan} {line : Bytes} {from n r : ℕ} {nul : Bool} {buf : Bytes} {to : ℕ} {buf' : Bytes}
     (w : ScannedAs x line from n r nul buf to buf') where

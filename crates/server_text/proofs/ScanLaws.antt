@@ -133,6 +133,16 @@ module _ {line : Bytes} {at i : ℕ} (w : Raw line at i) where
       let back : drop 32 (drop i line) ≡ rest = rw (e, ← n) (drop-append_seam x rest) in
       (sym back ∙ drop-drop 32 i line, raw-more 32 (omega arith) (rw front z))
 
+  pub raw-on : i < length line → is_escaped (get_or line i 0) ≡ false → Raw line at (i + 1)
+  unfolding escaped
+  raw-on h e = raw-more 1 (omega arith) (rw (drop-cons line i 0 h, e))
+
+  pub raw-stop : is_escaped (get_or line i 0) ≡ true → RawTo line at i
+  raw-stop e = record { place = w.place; raw = w.raw; ends = λ h. e }
+
+  pub raw-all : length line ≤ i → RawTo line at i
+  raw-all h = record { place = w.place; raw = w.raw; ends = λ k. absurd (omega arith) }
+
   -- what is looked for from i on is looked for from `at` on
   pub raw-then : {r : ℕ} → RawTo line i r → RawTo line at r
   raw-then {r} v =

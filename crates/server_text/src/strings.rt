@@ -13,11 +13,12 @@ fn raw_from(line: &[u8], at: usize) -> usize
     requires { at ≤ length line.now }
     ensures { RawTo line.now at result }
 {
-    let rest = &line[at..];
-    at + rest
-        .iter()
-        .position(|b| message::is_escaped(*b))
-        .unwrap_or(rest.len())
+    for i in at..line.len() {
+        if message::is_escaped(line[i]) {
+            return i;
+        }
+    }
+    line.len()
 }
 
 // The same. Blocks of 32 bytes that may all stand raw are passed whole.
@@ -26,14 +27,14 @@ fn raw_end(line: &[u8], at: usize) -> usize
     requires { at ≤ length line.now }
     ensures { RawTo line.now at result }
 {
-    let mut i = at;
-    for block in line[at..].chunks_exact(32) {
-        if message::escaped_in(block) != 0 {
-            break;
+    let blocks = (line.len() - at) / 32;
+    for k in 0..blocks {
+        let i = at + 32 * k;
+        if message::escaped_in(&line[i..i + 32]) != 0 {
+            return raw_from(line, i);
         }
-        i += 32;
     }
-    raw_from(line, i)
+    raw_from(line, at + 32 * blocks)
 }
 
 // Copies the bytes from `at` on that stand raw to buf from `to` on, as far as buf goes, and gives

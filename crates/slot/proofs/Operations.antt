@@ -32,7 +32,7 @@ use Rattle.model.specs.State.{opening_with, off, after_slip}
 use Rattle.model.specs.Queue.{queue_fits, shut_by, with_error}
 use Rattle.slot.specs.Image.{in_bytes}
 use Rattle.slot.specs.Image.{refused, error_fits, slipped}
-use Rattle.slot.specs.Region.{phase_of, kind_byte, subscriptions_part, recording_part, queue_part}
+use Rattle.slot.specs.Region.{phase_of, kind_byte, subscriptions_part, recording_part, queue_part, kind_number}
 use Rattle.slot.specs.Region.{kind_numbered, kind_in, hangs_up_in, byte_for, client_of, reserve_of}
 use Rattle.slot.specs.Promises.{room_of, HasClient, HasOpen, Sized, Becomes, Stripping}
 use Rattle.slot.proofs.Slots.{Holds, holds, holds-subscriptions, holds-recording, holds-queue, holds-phase, holds-kind}
@@ -84,6 +84,12 @@ pub lent-queue : (R : ℕ) (s : Bytes) → take (length s - (4116 + R)) (drop (4
 lent-queue R s = take_all (length s - (4116 + R)) (drop (4116 + R) s) (omega (arith, length-queue_part R s))
 
 -- ---- kinds
+
+pub kind_number-most : (k : Kind) → kind_number k ≤ 3
+kind_number-most Packets = omega arith
+kind_number-most Stream = omega arith
+kind_number-most Framed = omega arith
+kind_number-most Text = omega arith
 
 -- a byte says this kind and this form
 pub record Says (b : ℕ) (k : Kind) (hangs_up : Bool) : Type 0 where

@@ -88,6 +88,14 @@ used-open {R} {s} w e o =
     let h = used-client w e in
     record { is_open = open-phase h (ap (λ (x : ClientImage). x.shut) (client_of-used R s e) ∙ o); rules = h.rules }
 
+pub used-resting : {R : ℕ} {s : Bytes} {c : ClientImage} → SlotRules R s → slot_of R s ≡ used c
+    → c.queue.pending ≡ kept [] → HasResting R s
+used-resting {R} {s} w e o =
+    record {
+      client = used-client w e;
+      none-pending = ap (λ (x : ClientImage). x.queue.pending) (client_of-used R s e) ∙ o;
+    }
+
 pub rules-open : {R : ℕ} {s : Bytes} → SlotRules R s → phase_of s ≡ 1 → HasOpen R s
 rules-open w e = record { is_open = e; rules = w (λ z. omega arith) }
 

@@ -13,8 +13,9 @@ mod queueing;
 mod reading;
 mod recordings;
 
-ghost use Rattle.std.specs.Prelude.{◌≤◌, length};
+ghost use Rattle.std.specs.Prelude.{◌≡◌, ◌≤◌, eqb, length};
 ghost use Rattle.model.specs.State.{opening_with, used, new_client, with_kind};
+ghost use Rattle.slot.specs.Region.{phase_of, kind_byte, kind_in, hangs_up_in};
 ghost use Rattle.slot.specs.Promises.{Sized, Regions, Becomes, Stripping, Closing, Changing};
 
 pub use client::{add_pattern, notify, remove_pattern};
@@ -42,6 +43,38 @@ const PATTERNS: usize = 4;
 const RECORDING: usize = 4104;
 
 const QUEUE: usize = 4116;
+
+// Whether the slot is free.
+pub fn is_free(s: &[u8]) -> bool
+    requires { 1 ≤ length s.now }
+    ensures { result ≡ eqb (phase_of s.now) 0 }
+{
+    s[PHASE] == FREE
+}
+
+// Whether the slot's client is shut.
+pub fn is_shut(s: &[u8]) -> bool
+    requires { 1 ≤ length s.now }
+    ensures { result ≡ eqb (phase_of s.now) 2 }
+{
+    s[PHASE] == SHUT
+}
+
+// How the slot's client speaks.
+pub fn kind(s: &[u8]) -> Kind
+    requires { 2 ≤ length s.now }
+    ensures { result ≡ kind_in (kind_byte s.now) }
+{
+    Opening::from(s[KIND]).kind
+}
+
+// Whether the slot's client was opened in form 2, in which every refusal shuts it.
+pub fn hangs_up(s: &[u8]) -> bool
+    requires { 2 ≤ length s.now }
+    ensures { result ≡ hangs_up_in (kind_byte s.now) }
+{
+    Opening::from(s[KIND]).hangs
+}
 
 // Frees the slot.
 pub fn close(s: &mut [u8])

@@ -7,8 +7,7 @@ ghost use Rattle.slot.specs.Region.{phase_of, kind_byte, kind_in, hangs_up_in};
 ghost use Rattle.slot.specs.Region.{subscriptions_part, recording_part, queue_part, client_of};
 ghost use Rattle.slot.specs.Promises.{room_of, HasClient, HasResting, HasOpenResting, Fits};
 
-use crate::opening::Opening;
-use crate::{FREE, KIND, PATTERNS, PHASE, QUEUE, RECORDING, SHUT};
+use crate::{PATTERNS, QUEUE, RECORDING, hangs_up, is_free, is_shut, kind};
 use protocol::{Kind, Refusal};
 
 // The bytes of a slot, and the record room R. A slot has all of its regions.
@@ -45,28 +44,28 @@ impl<'a> Slot<'a> {
     pub fn is_free(self) -> bool
         ensures { result ≡ (phase_of self.entry.bytes.now == 0) }
     {
-        self.bytes[PHASE] == FREE
+        is_free(self.bytes)
     }
 
     // Whether the slot's client is shut.
     pub fn is_shut(self) -> bool
         ensures { result ≡ (phase_of self.entry.bytes.now == 2) }
     {
-        self.bytes[PHASE] == SHUT
+        is_shut(self.bytes)
     }
 
     // How the slot's client speaks.
     pub fn kind(self) -> Kind
         ensures { result ≡ kind_in (kind_byte self.entry.bytes.now) }
     {
-        Opening::from(self.bytes[KIND]).kind
+        kind(self.bytes)
     }
 
     // Whether the slot's client was opened in form 2, in which every refusal shuts it.
     pub fn hangs_up(self) -> bool
         ensures { result ≡ hangs_up_in (kind_byte self.entry.bytes.now) }
     {
-        Opening::from(self.bytes[KIND]).hangs
+        hangs_up(self.bytes)
     }
 
     // Whether the client has a message to take.

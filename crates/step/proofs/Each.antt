@@ -7,11 +7,12 @@ use Rattle.octets.specs.Octets.{Bytes}
 use Rattle.model.specs.State.{Sizes}
 use Rattle.model.specs.Events.{on_client}
 use Rattle.slot.specs.Image.{ClientImage}
-use Rattle.memory.specs.Layout.{sizes_of}
+use Rattle.memory.specs.Layout.{sizes_of, stride, slot_start}
 use Rattle.memory.specs.Image.{Image, image_of, with_slots, on_slot, on_slots}
 use Rattle.memory.specs.Rules.{Sound, Becomes}
 use Rattle.memory.specs.Promises.{InSlot, Changes}
 use Rattle.memory.proofs.Lent.{length-slots}
+use Rattle.memory.proofs.Bounds.{Bounds}
 use Rattle.refinement.proofs.Ends.{becomes-same, becomes-as, becomes-sizes, becomes-then}
 use Rattle.refinement.proofs.Events.{up_to, on_slots-start, on_slots-next, on_slots-all}
 
@@ -40,6 +41,18 @@ module _ {f : ClientImage → ClientImage} {i : ℕ} {m m' : Bytes} (h : Passed 
   pub passed-slot : i < (sizes_of m).slot_count → InSlot m' i
   unfolding on_slots with_slots
   passed-slot l = record { sound = h.made.sound; inside = rw (becomes-sizes h.made refl) l }
+
+  -- its bounds, where it begins at `at`
+  pub passed-bounds : {at step : ℕ} → at ≡ slot_start (sizes_of m) i → i < (sizes_of m).slot_count
+      → step ≡ stride (sizes_of m) → {r : ℕ} → r ≡ (sizes_of m).record_room → Bounds m' at (at + step) r
+  passed-bounds {at} {step} place l es {r} er =
+      let z = passed-sizes refl in
+      let start : at ≡ slot_start (sizes_of m') i = rw z at place in
+      let e : step ≡ stride (sizes_of m') = rw z at es in
+      record {
+        index = i;
+        lent = record { in-slot = passed-slot l; start = start; end = omega (arith, start, e); room = rw z at er };
+      }
 
   pub passed-next : {m'' : Bytes} → Changes i f m' m'' → Passed f (i + 1) m m''
   unfolding on_slots with_slots

@@ -1,8 +1,8 @@
 -- The laws of one row: what its test says, what of it is seen through the front of a list, and the row that is written.
 use mathlib.Core.Path.{◌≡◌, sym, ap, ◌∙◌}
 use mathlib.Core.List.{[], ◌∷◌, ◌++◌}
-use mathlib.Core.Bool.{true}
-use Prim.Native.Nat.{ℕ, suc, ◌+◌, ◌-◌, ◌≤◌, ◌<◌}
+use mathlib.Core.Bool.{true, false, ◌&&◌}
+use Prim.Native.Nat.{ℕ, suc, ◌+◌, ◌-◌, ◌≤◌, ◌<◌, min as least}
 use native.Mathlib.Nat.{add-zero}
 use native.Mathlib.Omega.{arith}
 use borrow.Author.Tests.{leb-true, ltb-true, eqb-true, le-leb, lt-ltb, eq-eqb}
@@ -15,7 +15,7 @@ use Rattle.octets.specs.Number.{number_at, big_endian}
 use Rattle.octets.proofs.Laws.{sets-append}
 use Rattle.octets.proofs.Parts.{part-take, part-add, length_part}
 use Rattle.octets.proofs.Numbers.{number_at-take, number_at-drop, number_at-big_endian-append, length-big_endian}
-use Rattle.model.proofs.Tests.{and_left, and_right}
+use Rattle.model.proofs.Tests.{either, and_left, and_right}
 use Rattle.store.specs.Row.{body_length, key_length, row_size, key_of, value_of, body_of, entry_of, row_fine, row_bytes}
 
 -- ---- the test
@@ -235,6 +235,30 @@ module _ (s : Bytes) (i : ℕ) where
 
 -- what a row at an index lets one know
 pub ruleset row_parts = (row_room, row_whole, row_key, body_at, key_of-at, body_of-at)
+
+-- the test, as numbers found in the list
+pub row_fine-at : (s : Bytes) (i b k : ℕ) → b ≡ number_at 4 s i → k ≡ number_at 2 s (i + 4)
+    → row_fine (drop i s)
+    ≡ leb 8 (length s - i)
+    && (ltb k b
+    && (leb b 65535
+    && (leb (7 + b) (length s - i)
+    && (eqb (get_or s (i + 6) 0) 0
+    && eqb (get_or s (i + 7 + k) 0) 0))))
+unfolding row_fine
+row_fine-at s i b k eb ek =
+    let j : i + (7 + k) ≡ i + 7 + k = omega arith in
+    rw (body_at s i, key-at s i, ← eb, ← ek, length-drop i s, get_or-drop i s 6 0, get_or-drop i s (7 + k) 0, j)
+
+-- a body that is longer than the list, or than a body may be
+pub row_fine-long : (s : Bytes) (i : ℕ) → least (length s - i - 7) 65535 < number_at 4 s i → row_fine (drop i s) ≡ false
+row_fine-long s i h =
+    either (row_fine (drop i s))
+    (λ e. let t = (sound (drop i s) e).short in
+    let w = row_whole s i e in
+    let b = body_at s i in
+    absurd (omega arith))
+    (λ e. e)
 
 -- ---- a row written part by part
 

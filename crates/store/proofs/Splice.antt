@@ -1,15 +1,15 @@
 -- A store region whose rows are changed in the middle: what is behind the change is moved, other rows are written
 -- before it, and the head follows. One law serves a row put in, replaced or taken out.
 use mathlib.Core.Path.{◌≡◌, ◌∙◌}
-use mathlib.Core.List.{[], ◌∷◌, ◌++◌}
+use mathlib.Core.List.{[], ◌∷◌, ◌++◌, append_assoc}
 use Prim.Native.Nat.{ℕ, ◌+◌, ◌-◌, ◌*◌, ◌≤◌, ◌<◌, ◌^◌}
 use native.Mathlib.Omega.{arith}
 use lib.ListN.{length, drop, length-drop}
-use lib.Seq.{sets, length-sets, drop-drop}
+use lib.Seq.{sets, sets-eq, length-sets, drop-drop}
 use Rattle.octets.specs.Octets.{Bytes}
 use Rattle.octets.specs.Part.{part}
 use Rattle.octets.specs.Number.{big_endian}
-use Rattle.octets.proofs.Parts.{length_part, take_part, drop-part, part-sets-after, part-sets-moved}
+use Rattle.octets.proofs.Parts.{length_part, take_part, drop-part, take-part-drop, part-sets-after, part-sets-moved}
 use Rattle.octets.proofs.Numbers.{number_at-sets-same, number_at-sets-before, length-big_endian}
 use Rattle.model.specs.Store.{Store, store_charge}
 use Rattle.model.specs.Invariant.{Ascending}
@@ -19,6 +19,13 @@ use Rattle.store.specs.Operation.{Becomes}
 use Rattle.store.proofs.Rows.{Rows, rows_append, rows-front, rows_behind}
 use Rattle.store.proofs.Region.{Represents, used-charge, represents-fine, represents-holds}
 use Rattle.store.proofs.Split.{charge-append}
+
+-- bytes that are moved to where they are
+pub sets-moved-none : (s : Bytes) (from to n : ℕ) → from ≡ to → from + n ≤ length s → sets s to (part s from n) ≡ s
+sets-moved-none s from to n e h =
+    let l = length_part s from n h in
+    let k : from + length (part s from n) ≤ length s = omega arith in
+    rw (← e, sets-eq (part s from n) s from k, append_assoc, l) (take-part-drop s from n)
 
 -- rows of which each is as long as a message allows
 length-bound : (s : Bytes) (es : Store) → Rows s es → length s ≤ 65542 * length es

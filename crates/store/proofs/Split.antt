@@ -206,3 +206,16 @@ fits_with-store_fits S k v es a =
     leb-alike (length es + row_count (charge k v)) (1024 + row_count old) (length after) 1024
     (λ h. omega arith) (λ h. omega arith) in
     rw (room, few)
+
+-- what a store charges and counts after a WRITE: the old row for the new one
+pub charge-exchange : (k : Bytes) (v : Option Bytes) (es : Store) → Ascending es
+    → store_charge (store_after_write k v es) + charge k (lookup k es) ≡ store_charge es + charge k v
+charge-exchange k v es a =
+    let s = split k es a in
+    omega (arith, charge-whole s, charge-after s v)
+
+pub length-exchange : (k : Bytes) (v : Option Bytes) (es : Store) → Ascending es
+    → length (store_after_write k v es) + row_count (charge k (lookup k es)) ≡ length es + row_count (charge k v)
+length-exchange k v es a =
+    let s = split k es a in
+    omega (arith, length_whole s, length-after s v)

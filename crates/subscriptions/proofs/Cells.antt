@@ -6,13 +6,14 @@ use Prim.Native.Nat.{ℕ, zero, suc, ◌+◌, ◌*◌, ◌≤◌, ◌<◌}
 use native.Mathlib.Nat.{add-zero}
 use native.Mathlib.Omega.{arith}
 use lib.Dec.{eqb, leb}
-use lib.ListN.{length, drop}
+use lib.ListN.{length, drop, get_or}
 use lib.Seq.{sets, sets-eq, drop-drop, take-append_seam}
 use borrow.Author.Tests.{eqb-true, eq-eqb, leb-true, le-leb}
 use Rattle.octets.specs.Octets.{Bytes}
 use Rattle.octets.specs.Part.{part}
 use Rattle.octets.specs.Number.{number_at}
 use Rattle.octets.specs.Table.{rows}
+use Rattle.octets.proofs.Parts.{part-part, get_d_part}
 use Rattle.octets.proofs.Tables.{length-rows}
 use Rattle.subscriptions.specs.Promises.{CellOf}
 use Rattle.subscriptions.specs.Region.{cell, cell_at, count_of, patterns_of, subscriptions_fine}
@@ -60,6 +61,15 @@ pub cell_of : (s : Bytes) (i : ℕ) → subscriptions_fine s ≡ true → i < le
 cell_of s i h l =
     let w = fine-rules h in
     record { size = w.size; index = omega (arith, w.few, length-patterns_of s) }
+
+-- the cell by its length byte, found in the list
+pub cell_at-part : (s : Bytes) (i : ℕ) → get_or s (4 + i * 256) 0 < 256
+    → cell_at s i ≡ part s (4 + i * 256 + 1) (get_or s (4 + i * 256) 0)
+unfolding cell_at cell
+cell_at-part s i h =
+    let at : ℕ = 4 + i * 256 in
+    let e : get_or (part s at 256) 0 0 ≡ get_or s at 0 = rw (add-zero at) at (get_d_part s at 256 0 (omega arith)) in
+    rw e (part-part s at 256 1 (get_or s at 0) (omega arith))
 
 -- a length byte and a pattern, whatever stands behind
 pub cell-sets : (c p : Bytes) → length p + 1 ≤ length c → cell (sets c 0 (length p ∷ p)) ≡ p

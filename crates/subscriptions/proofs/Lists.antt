@@ -19,12 +19,12 @@ or-cond : (a b : Bool) → a || b ≡ cond a true b
 or-cond true b = refl
 or-cond false b = refl
 
-any_held : (p : Bytes) (ps : Patterns) → list_any (same p) ps ≡ held p ps
+pub any_held : (p : Bytes) (ps : Patterns) → list_any (same p) ps ≡ held p ps
 unfolding held
 any_held p [] = refl
 any_held p (q ∷ ps) = or-cond (same p q) _ ∙ ap (cond (same p q) true) (any_held p ps)
 
-any-subscribed : (k : Bytes) (ps : Patterns) → list_any (λ p. accepted p k) ps ≡ subscribed matching ps k
+pub any-subscribed : (k : Bytes) (ps : Patterns) → list_any (λ p. accepted p k) ps ≡ subscribed matching ps k
 unfolding subscribed matching
 any-subscribed k [] = refl
 any-subscribed k (p ∷ ps) = or-cond (accepted p k) _ ∙ ap (cond (accepted p k) true) (any-subscribed k ps)

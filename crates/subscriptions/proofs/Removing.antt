@@ -17,7 +17,7 @@ use Rattle.octets.proofs.Numbers.{number_at-sets-same, length-big_endian}
 use Rattle.octets.proofs.Tables.{table-sets-after}
 use Rattle.model.specs.Patterns.{Patterns, held, add_pattern, remove_pattern}
 use Rattle.subscriptions.specs.Region.{cell, cell_at, count_of, patterns_of, subscriptions_fine}
-use Rattle.subscriptions.specs.Promises.{Becomes, Addable, Kept, dropped, kept}
+use Rattle.subscriptions.specs.Promises.{Becomes, Addable, Places, Kept, dropped, kept}
 use Rattle.subscriptions.proofs.Cells.{fine-rules, rules-fine, length-patterns_of, cell-sets, rows-cons}
 use Rattle.subscriptions.proofs.Cells.{rows_snoc}
 
@@ -117,6 +117,9 @@ sift-start p s n h e =
     }
 
 module _ (ps : Patterns) (p : Bytes) (n : ℕ) (s : Bytes) (from to : ℕ) (w : Sifted ps p n s from to) where
+  pub sift-places : from < n → Places s from to
+  sift-places l = record { cell = record { size = w.size; index = omega (arith, w.few) }; order = w.order }
+
   sift-turn : from < n
       → rows cell 256 (n - from) (drop (4 + from * 256) s)
       ≡ cell_at s from ∷ rows cell 256 (n - (from + 1)) (drop (4 + (from + 1) * 256) s)

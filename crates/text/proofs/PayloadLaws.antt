@@ -91,6 +91,11 @@ module _ {line : Bytes} {at i : ℕ} (k : Skipped line at i) where
 no : {A : Type 0} → true ≡ false → A
 no e = let z : ◌≡◌ {A = ℕ} 0 1 = cc in absurd (omega arith)
 
+pub ended_is : (z : Next) → is_ended z ≡ true → z ≡ ended
+ended_is ended l = refl
+ended_is faulty l = no (sym l)
+ended_is (field y q) l = no (sym l)
+
 none-some : {A : Type 0} {B : Type 0} {v : B} → ◌≡◌ {A = Option B} none (some v) → A
 none-some e = let z : ◌≡◌ {A = ℕ} 0 1 = cc in absurd (omega arith)
 
@@ -354,9 +359,12 @@ hello-none s most buf buf' m e k = record
 
 module _ {line : Bytes} {at v r : ℕ} (w : VersionAs line at v r) (buf buf' : Bytes) (k : buf' ≡ set buf 0 v)
     (buf'' : Bytes) where
+  version-stored : has_version (next (drop at line)) ≡ true
+  version-stored = rw (w.is, w.number)
+
   pub hello-fault : fields 1 (drop r line) ≡ none
       → Fails (payload_of hello_payload (drop at line)) (has_version (next (drop at line))) buf buf''
-  hello-fault e = fails (rest_of hello_payload (drop at line) w.is ∙ rw e) (rw (w.is, w.number))
+  hello-fault e = fails (rest_of hello_payload (drop at line) w.is ∙ rw e) version-stored
 
   pub hello-built : (o : Code.Option ℕ) → LastAt line r buf' 1 (Ok o) buf''
       → BuildsAs (payload_of hello_payload (drop at line)) (length line + 1) buf 0 (1 + unwrap_or o 0) buf''

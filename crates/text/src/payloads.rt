@@ -32,8 +32,8 @@ pub fn number_of(s: &[u8]) -> Option<u8>
     Some(n)
 }
 
-// HELLO's version from `at` on, where a field comes. A quoted one is malformed, as a quote is no
-// digit.
+// HELLO's version from `at` on, where a field comes. A quoted one is malformed, whatever it holds;
+// it is refused at its quote, before its end is looked for.
 fn version_field(line: &[u8], at: usize) -> Result<Option<Version>, Malformed>
     requires { at ≤ length line.now }
     ensures { VersionAt line.now at result }
@@ -41,6 +41,9 @@ fn version_field(line: &[u8], at: usize) -> Result<Option<Version>, Malformed>
     let Some(i) = skip_spaces(line, at) else {
         return Ok(None);
     };
+    if line[i] == b'"' {
+        return Err(Malformed);
+    }
     let next = word_end(line, i);
     let number = number_of(&line[i..next]).ok_or(Malformed)?;
     Ok(Some(Version { number, next }))

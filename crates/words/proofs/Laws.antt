@@ -1,5 +1,5 @@
--- Command words in small letters, and the look-up row by row.
-use mathlib.Core.Path.{◌≡◌, refl, sym, ap₂, ◌∙◌}
+-- Command words in small letters and byte by byte, and the look-up row by row.
+use mathlib.Core.Path.{◌≡◌, refl, sym, ap, ap₂, ◌∙◌}
 use mathlib.Core.List.{List, [], ◌∷◌, map}
 use mathlib.Core.Bool.{Bool, true, false, cond, ◌&&◌, and-eq-true_iff, false≢true}
 use mathlib.Core.Option.{Option}
@@ -9,8 +9,9 @@ use native.Mathlib.Omega.{arith}
 use lib.Dec.{leb, ltb, eqb}
 use lib.ListN.{length, get_or, drop, drop_of_length-le}
 use lib.Seq.{drop-cons}
-use borrow.Author.Tests.{ltb-true, ltb-false, le-leb, lt-leb, eqb-true}
+use borrow.Author.Tests.{ltb-true, ltb-false, le-leb, lt-leb, eqb-true, eq-eqb, ne_eqb}
 use Rattle.std.proofs.Common.{Some, None, inl, inr, ◌↔◌}
+use Rattle.std.proofs.lemmas.List.{length-map}
 use Rattle.std.specs.Bool.{IsTrue}
 use Rattle.std.specs.Char.{to_ascii_lowercase}
 use Rattle.octets.specs.Octets.{Bytes}
@@ -61,6 +62,30 @@ any_case w name b t s = by b t.0 t.1
     by true f g = sym (eq-same (map lower w) name (sym (lowercase-word w) ∙ f refl ∙ e))
     by false f g =
         sym (ne_same (map lower w) name (λ q. false≢true (g (lowercase-word w ∙ q ∙ sym e))))
+
+-- ---- a word by its bytes
+
+pub not-word : (w name : Bytes) → (length w ≡ length name → ⊥) → same (map lower w) name ≡ false
+not-word w name h = ne_same (map lower w) name (λ e. h (sym (length-map w lower) ∙ ap length e))
+
+module _ (w name : Bytes) (i : ℕ) where
+  word_at : i < length w → i < length name
+      → same (map lower (drop i w)) (drop i name) ≡ cond (eqb (lower (get_or w i 0)) (get_or name i 0))
+      (same (map lower (drop (i + 1) w)) (drop (i + 1) name)) false
+  unfolding same
+  word_at h k = rw (add-one i, drop-cons w i 0 h, drop-cons name i 0 k)
+
+  pub word-no : i < length w → i < length name → (lower (get_or w i 0) ≡ get_or name i 0 → ⊥)
+      → same (map lower (drop i w)) (drop i name) ≡ false
+  word-no h k e = word_at h k ∙ rw (ne_eqb _ _ e)
+
+  pub word-yes : i < length w → i < length name → lower (get_or w i 0) ≡ get_or name i 0
+      → same (map lower (drop i w)) (drop i name) ≡ same (map lower (drop (i + 1) w)) (drop (i + 1) name)
+  word-yes h k e = word_at h k ∙ rw (eq-eqb _ _ e)
+
+  pub word-all : length w ≤ i → length name ≤ i → same (map lower (drop i w)) (drop i name) ≡ true
+  unfolding same
+  word-all h k = rw (drop_of_length-le w h, drop_of_length-le name k)
 
 -- ---- a row has no capitals
 

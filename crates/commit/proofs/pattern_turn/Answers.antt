@@ -1,7 +1,7 @@
 -- `commit::pattern_turn` meets its contract.
 use lib.ListN.{length}
 use Rattle.commit.proofs.Steps.{sub-room, sub-short}
-use Rattle.commit.proofs.Steps.{sub-stopped, sub-taken, unsub-taken, other-taken}
+use Rattle.commit.proofs.Steps.{sub-stopped, sub-taken, unsub-taken, command-taken}
 use Rattle.commit.proofs.pattern_turn.Goals as goal
 
 pub returns-then-sub_refused : goal.returns-then-sub_refused
@@ -33,5 +33,5 @@ returns-in-Unsub c =
 pub returns-in_default : goal.returns-in_default
 returns-in_default c =
     let A = c.args in
-    other-taken A.id A.pattern.now A.patterns.now A.t c.requires.patterns-fine
+    command-taken A.id A.pattern.now A.patterns.now A.t c.requires.patterns-fine
     c.in_default.not-Sub c.in_default.not-Unsub c.requires.other

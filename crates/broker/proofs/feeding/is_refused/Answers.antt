@@ -13,7 +13,7 @@ use Rattle.recording.specs.Encoding.{action_of}
 use Rattle.memory.specs.Image.{client_at, image_of}
 use Rattle.step.specs.TurnParts.{refused_in}
 use Rattle.broker.proofs.Recorded.{in-used, client-rules}
-use Rattle.broker.proofs.Actions.{sub-refused_in, never-refused}
+use Rattle.broker.proofs.Actions.{sub-refused_in, command-never-refused}
 use Rattle.broker.proofs.feeding.is_refused.Goals as goal
 
 pub sub_refused-requires : goal.sub_refused-requires
@@ -35,5 +35,5 @@ unfolding refused_in
 returns c =
     let A = c.args in
     let im = image_of A.mem.now in
-    never-refused A.id A.p.now im.sizes.store_room im.store (client_at A.slot im).patterns
+    command-never-refused A.id A.p.now im.sizes.store_room im.store (client_at A.slot im).patterns
     c.requires.1 (λ e. let w = rw e at (sym c.eq.ensures ∙ c.if-eq.false) in cc)

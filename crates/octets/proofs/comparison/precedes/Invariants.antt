@@ -1,6 +1,9 @@
-use Rattle.std.proofs.Common.{◌≡◌, ◌*◌, take}
+use Rattle.std.proofs.Common.{◌≡◌, ◌-◌, take}
 use Rattle.octets.proofs.comparison.precedes.Given as goal
 
--- the words before the one at 8 * k are equal
-abbrev pub invariant-loop-k : goal.invariant-loop-k
-invariant-loop-k l = take (8 * l.k) l.a ≡ take (8 * l.k) l.b
+-- the bytes before i are equal
+abbrev pub invariant-loop-i : goal.invariant-loop-i
+invariant-loop-i l = take l.i l.a ≡ take l.i l.b
+
+abbrev pub decreases-loop-i : goal.decreases-loop-i
+decreases-loop-i l = l.last - l.i

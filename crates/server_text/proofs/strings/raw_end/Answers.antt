@@ -1,30 +1,29 @@
 -- `server_text::strings::raw_end`: the blocks so far may all stand raw.
-use Rattle.std.proofs.Common.{rules}
-use mathlib.Core.Path.{◌≡◌, sym, ap, ◌∙◌}
-use native.Mathlib.Omega.{arith}
-use Rattle.std.specs.Slice.Iter.{chunks_exact_rest, chunks_exact_size}
+use Rattle.std.proofs.Common.{◌≡◌, ℕ, ◌+◌, ◌*◌, ◌-◌, ◌/◌, length, take, drop, sym, ap, ◌∙◌, rules, arith}
 use Rattle.message.specs.Quoting.{escaped}
-use Rattle.text.proofs.ScanLaws.{tail_whole}
-use Rattle.server_text.proofs.ScanLaws.{raw-start, raw-block, raw-then}
+use Rattle.server_text.proofs.ScanLaws.{raw-start, raw-more, raw-then}
 use Rattle.server_text.proofs.strings.raw_end.Goals as goal
 
-pub loop-block-init : goal.loop-block-init
-loop-block-init c =
-    let A = c.args in
-    let same = c.into_iter-block-iterator.ensures.into_iter_gives in
-    let chunks = c.chunks_exact-block-items.ensures in
-    let size = ap chunks_exact_size same ∙ chunks.size in
-    let rest = ap chunks_exact_rest same ∙ chunks.rest ∙ tail_whole A.line.now A.at in
-    (omega arith, tt, size, rest, raw-start _ _ (search rules))
+pub loop-k-init : goal.loop-k-init
+loop-k-init c =
+    let e : c.args.at + 32 * 0 ≡ c.args.at = omega arith in
+    rw e (raw-start _ _ (search rules))
 
-pub loop-block-preserved : goal.loop-block-preserved
-loop-block-preserved c =
-    let L = c.loop-block.invariant in
-    let step = c.in-Some.ensures.steps in
-    let size = step.0 ∙ L.2 in
-    let clean : escaped c.in-Some.block.now ≡ 0 = sym c.escaped_in.ensures ∙ omega arith in
-    let more = raw-block L.4 c.in-Some.block.now _ (sym L.3 ∙ step.1.0) (step.1.1 ∙ L.2) clean in
-    (omega arith, tt, size, more.0, more.1)
+pub returns-then-escaped_in-ne0 : goal.returns-then-escaped_in-ne0
+returns-then-escaped_in-ne0 c = raw-then c.loop-k.invariant c.raw_from.ensures
+
+pub loop-k-preserved : goal.loop-k-preserved
+loop-k-preserved c =
+    let A = c.args in
+    let line = A.line.now in
+    let i : ℕ = A.at + 32 * c.loop-k.k in
+    let n : i + 32 - i ≡ 32 = omega arith in
+    let e : escaped (take 32 (drop i line)) ≡ 0 =
+    sym (ap (λ (k : ℕ). escaped (take k (drop i line))) n) ∙ sym c.escaped_in.ensures ∙ omega arith in
+    let m : A.at + 32 * (c.loop-k.k + 1) ≡ i + 32 = omega arith in
+    rw m (raw-more c.loop-k.invariant 32 (omega arith) e)
 
 pub returns : goal.returns
-returns c = raw-then c.loop-block.invariant.4 c.raw_from.ensures
+returns c =
+    let e : c.args.at + 32 * c.loop-k.k ≡ c.args.at + 32 * ((length c.args.line.now - c.args.at) / 32) = omega arith in
+    raw-then (rw e at c.loop-k.invariant) c.raw_from-2.ensures

@@ -1,24 +1,19 @@
--- `server_text::strings::raw_from`: up to the first byte that a string escapes.
-use Rattle.std.proofs.Common.{rules, tests}
-use native.Mathlib.Omega.{arith}
-use mathlib.Core.Path.{◌≡◌, ap, ◌∙◌}
-use Prim.Native.Nat.{◌+◌}
-use lib.ListN.{drop}
-use Rattle.std.specs.List.{position}
-use Rattle.std.proofs.lemmas.Iterator.{YieldsList-from_slice}
-use Rattle.std.proofs.lemmas.Iterator.Search.{position_from_yields_List}
-use Rattle.message.specs.Quoting.{is_escaped}
-use Rattle.text.proofs.ScanLaws.{tail_whole}
-use Rattle.server_text.proofs.ScanLaws.{raws}
+-- `server_text::strings::raw_from`: all bytes from `at` to i stand raw.
+use Rattle.std.proofs.Common.{◌≡◌, length, rules, arith}
+use mathlib.Core.Path.{sym, ◌∙◌}
+use Rattle.server_text.proofs.ScanLaws.{raw-start, raw-on, raw-stop, raw-all}
 use Rattle.server_text.proofs.strings.raw_from.Goals as goal
+
+pub loop-i-init : goal.loop-i-init
+loop-i-init c = raw-start _ _ (search rules)
+
+pub returns-then-is_escaped : goal.returns-then-is_escaped
+returns-then-is_escaped c = raw-stop c.loop-i.invariant (sym c.is_escaped.ensures ∙ c.if-is_escaped.true)
+
+pub loop-i-preserved : goal.loop-i-preserved
+loop-i-preserved c = raw-on c.loop-i.invariant (omega arith) (sym c.is_escaped.ensures ∙ c.if-is_escaped.false)
 
 pub returns : goal.returns
 returns c =
-    let A = c.args in
-    let rest = c.iter.ensures.rest ∙ tail_whole A.line.now A.at in
-    let e : c.position.result ≡ position is_escaped (drop A.at A.line.now) =
-    position_from_yields_List is_escaped _ _ _ c.position.ensures.ran
-    (YieldsList-from_slice (drop A.at A.line.now) rest) (λ x b q k. search (rules, tests))
-    in
-    raws A.line.now A.at _ (omega arith)
-    (ap (◌+◌ A.at) (c.unwrap_or.ensures ∙ rw (e, tail_whole A.line.now A.at)))
+    let e : c.loop-i.i ≡ length c.args.line.now = omega (arith, c.loop-i.invariant.place.within) in
+    rw e at (raw-all c.loop-i.invariant (omega arith))
